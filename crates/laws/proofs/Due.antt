@@ -1,0 +1,65 @@
+-- Rule 3 and the tier rule, of each call that is answered accepted.
+-- Assumes nothing.
+use Prim.Native.Nat.{ℕ, _<_}
+use mathlib.Core.Path.{_≡_, refl, sym, ap, _∙_, subst}
+use mathlib.Core.List.{List}
+use lib.ListN.{length, take, replicate}
+use lib.Seq.{sets}
+use Rattle.rules.specs.declared.Step.{Step}
+use Rattle.rules.specs.declared.Step.the-variants.{Next, Refused}
+use Rattle.rules.specs.declared.Diagnostic.{Diagnostic}
+use Rattle.rules.specs.View.{items}
+use Rattle.rules.specs.Count.{count, place}
+use Rattle.rules.specs.Types.{typesOf}
+use Rattle.rules.specs.Walk.{sortOut}
+use Rattle.rules.specs.Order.{graphOf, walkOf}
+use Rattle.rules.specs.Improper.{improperOf}
+use Rattle.rules.specs.declared.Answer.{Answer}
+use Rattle.rules.specs.Answer.{Outcome, accepted, refused, setsOf, readWith, filled, cleared, call}
+use Rattle.rules.specs.Report.{report, reportOf}
+use Rattle.rules.specs.Rule3.{Rule3, Tiers3, structsTo, Due}
+use Rattle.laws.proofs.LastItems.{Fits}
+use Rattle.laws.proofs.Accepted.{fits, accepted-is}
+use Rattle.laws.proofs.Rule3Order.{order-is, once-is, none-is, after-is, tiers-are}
+use Rattle.laws.proofs.Rule3Cyclic.{cyclic-is}
+use Rattle.laws.proofs.Rule3Improper.{improper-is}
+
+module _ (s : List ℕ) (sound : Fits s) where
+  unfoldable pub answered : Answer
+  answered = accepted s (typesOf s) (walkOf s (typesOf s)) (reportOf s (typesOf s) (walkOf s (typesOf s)))
+
+  pub rule3 : Rule3 s answered (report s)
+  unfolding answered accepted setsOf walkOf
+  rule3 =
+      record {
+        once = λ i si. ap (count i) (order-is s sound) ∙ once-is s sound i si;
+        none-else = λ i ns. ap (count i) (order-is s sound) ∙ none-is s sound i ns;
+        after = rw (order-is s sound) (after-is s sound);
+        cyclic = cyclic-is s sound;
+        improper = improper-is s sound;
+      }
+
+  pub tiers3 : Tiers3 s (answered .tiers)
+  unfolding answered accepted walkOf
+  tiers3 = tiers-are s sound
+
+  pub answer-is : (scratch : List ℕ) (list : List Diagnostic) (e : ℕ) → readWith (length scratch) s ≡ Next e → call s scratch list .answer ≡ answered
+  unfolding call answered
+  answer-is scratch list e h =
+      ap
+      (λ (x : Step).
+      (elim x as (λ _. Outcome) [
+        | Refused why at ↦ record { answer = refused why at; list = list; scratch = scratch }
+        | Next _ ↦ record { answer = accepted s (typesOf s) (walkOf s (typesOf s)) full; list = filled list full; scratch = cleared scratch }
+      ]) .answer)
+      h
+    where
+      full : List Diagnostic
+      full = reportOf s (typesOf s) (walkOf s (typesOf s))
+
+-- what is due
+pub due : Due
+due s scratch list e h =
+    let f = fits s (accepted-is (length scratch) s e h) in
+    let a = answer-is s f scratch list e h in
+    (rw a (rule3 s f), rw a (tiers3 s f))

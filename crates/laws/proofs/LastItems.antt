@@ -1,0 +1,196 @@
+-- The tables of last items, and the fields that lead to struct items: what is computed is what the words of rule 3 say.
+-- Assumes nothing.
+use Prim.Native.Nat.{ℕ, zero, suc, _+_, _≤_, _<_}
+use mathlib.Core.Path.{_≡_, refl, sym, ap, _∙_, subst}
+use mathlib.Core.Logic.{_≢_, _↔_, _⊎_}
+use mathlib.Core.Bool.{Bool, true, false, _&&_, _||_}
+use mathlib.Core.List.{List}
+use native.Mathlib.Omega.{arith}
+use lib.Dec.{T, eqb, ltb, leb, ltb→lt, lt→ltb, eqb→eq, eqb-refl}
+use lib.ListN.{length, getD, set, replicate, length-set, length-replicate, getD-replicate, List·getD-eq-default}
+use lib.Seq.{getD-set-same, getD-set-other}
+use native.Mathlib.Decide.{decLt}
+use Rattle.rules.specs.Base.{if_then_else_}
+use Rattle.rules.specs.View.{Ident, Ref, Ptr, Array, is, kind, rowName, rows, inner, Struct, isType, items, itemKind, itemIs, itemName, fieldCount, field}
+use Rattle.rules.specs.Collect.{none, lastTo, entersStructs}
+use Rattle.rules.specs.Types.{Types, typesOf, structOf}
+use Rattle.rules.specs.Graph.{Graph}
+use Rattle.laws.proofs.Chains.{Good, Edge}
+use Rattle.rules.specs.Order.{leadsTo, graphOf}
+use Rattle.rules.specs.Rule3.{IsStruct, LastStruct, Holds}
+use Rattle.laws.proofs.Counts.{Eq?, same, other, eq?, eqb-true}
+
+-- what rule 3 needs of an accepted sheet
+pub record Fits (s : List ℕ) : Type 0 where
+  pub few : items s ≤ 255
+  pub named : (i : ℕ) → i < items s → T (isType s i) → itemName s i < 256
+  pub rows-fall : (r : ℕ) → r < rows s → (kind s r ≡ Ref) ⊎ ((kind s r ≡ Ptr) ⊎ (kind s r ≡ Array)) → inner s r < r
+  pub fields-below : (i j : ℕ) → IsStruct s i → j < fieldCount s i → field s i j < rows s
+
+-- an item of a kind that is a type's
+pub kind-type : (s : List ℕ) (k : ℕ) → T ((leb 1 k && leb k 4) || eqb k 7) → (i : ℕ) → itemKind s i ≡ k → T (isType s i)
+unfolding isType
+kind-type s k t i e = subst (λ (x : ℕ). T ((leb 1 x && leb x 4) || eqb x 7)) (sym e) t
+
+pub struct-named : (s : List ℕ) → Fits s → (i : ℕ) → IsStruct s i → itemName s i < 256
+struct-named s fits i h = fits .named i (h .below) (kind-type s 1 tt i (h .is-struct))
+
+-- r is the last of the first k items that pass and bear the name n, or there is none
+pub data Last (s : List ℕ) (p : ℕ → Bool) (k n : ℕ) : ℕ → Type 0 where
+  no-one : ((j : ℕ) → j < k → T (p j) → itemName s j ≢ n) → Last s p k n 255
+  last : {r : ℕ} → r < k → T (p r) → itemName s r ≡ n → ((j : ℕ) → j < k → T (p j) → itemName s j ≡ n → j ≤ r) → Last s p k n r
+
+module _ (s : List ℕ) (p : ℕ → Bool) where
+  pub length-last : (k : ℕ) → length (lastTo s p k) ≡ 256
+  unfolding lastTo
+  length-last zero = length-replicate {A = ℕ} 256 255
+  length-last (suc k) = go (p k) (length-last k)
+    where
+      go : (b : Bool) → length (lastTo s p k) ≡ 256 → length {A = ℕ} (elim b as (λ _. List ℕ) [ true ↦ set (lastTo s p k) (itemName s k) k | false ↦ lastTo s p k ]) ≡ 256
+      go true h = length-set (lastTo s p k) (itemName s k) k ∙ h
+      go false h = h
+
+  widen : (k n : ℕ) {r : ℕ} → (T (p k) → itemName s k ≢ n) → Last s p k n r → Last s p (suc k) n r
+  widen k n h (no-one f) = no-one λ j l t. at j l t (eq? j k)
+    where
+      at : (j : ℕ) → j < suc k → T (p j) → Eq? j k → itemName s j ≢ n
+      at j l t (same _ e) = rw e (h (subst (λ (x : ℕ). T (p x)) e t))
+      at j l t (other _ e) = f j (omega arith) t
+  widen k n {r} h (last l t e f) = let w : r < suc k = omega arith in last {r = r} w t e λ j m u q. at j m u q (eq? j k)
+    where
+      at : (j : ℕ) → j < suc k → T (p j) → itemName s j ≡ n → Eq? j k → j ≤ r
+      at j m u q (same _ d) = absurd (h (subst (λ (x : ℕ). T (p x)) d u) (subst (λ (x : ℕ). itemName s x ≡ n) d q))
+      at j m u q (other _ d) = f j (omega arith) u q
+
+  pub last-is : (k n : ℕ) → n < 256 → Last s p k n (getD (lastTo s p k) n 255)
+  unfolding lastTo
+  last-is zero n l = subst (λ (x : ℕ). Last s p 0 n x) (sym (getD-replicate 256 n 255 255 l)) (no-one λ j m _. absurd (omega arith))
+  last-is (suc k) n l = go (p k) refl (eq? n (itemName s k)) (last-is k n l)
+    where
+      t : List ℕ
+      t = lastTo s p k
+
+      go : (b : Bool) → p k ≡ b → Eq? n (itemName s k) → Last s p k n (getD t n 255) → Last s p (suc k) n (getD (elim b as (λ _. List ℕ) [ true ↦ set t (itemName s k) k | false ↦ t ]) n 255)
+      go true e (same _ q) ih =
+          let w : getD (set t (itemName s k) k) n 255 ≡ k = ap (λ x. getD (set t (itemName s k) k) x 255) q ∙ getD-set-same t (itemName s k) k 255 (omega (arith, length-last k)) in
+          subst (λ (x : ℕ). Last s p (suc k) n x) (sym w) (last {r = k} (omega arith) (subst T (sym e) tt) (sym q) (λ j m _ _. omega arith))
+      go true e (other _ q) ih = subst (λ (x : ℕ). Last s p (suc k) n x) (sym (getD-set-other t (itemName s k) n k 255 q)) (widen k n (λ _ d. q (sym d)) ih)
+      go false e q ih = widen k n (λ u. absurd (subst T e u)) ih
+
+-- ## Struct items
+
+and-left : (a b : Bool) → T (a && b) → T a
+and-left true b t = tt
+and-left false b t = t
+
+and-right : (a b : Bool) → T (a && b) → T b
+and-right true b t = t
+and-right false b t = absurd t
+
+and-both : (a b : Bool) → T a → T b → T (a && b)
+and-both true b t u = u
+and-both false b t u = t
+
+module _ (s : List ℕ) where
+  kind-true : (i : ℕ) → itemKind s i ≡ Struct → T (itemIs s Struct i)
+  unfolding itemIs
+  kind-true i e = subst (λ (x : ℕ). T (eqb x 1)) (sym e) (eqb-refl 1)
+
+  true-kind : (i : ℕ) → T (itemIs s Struct i) → itemKind s i ≡ Struct
+  unfolding itemIs
+  true-kind i t = eqb→eq (itemKind s i) 1 t
+
+  G : Graph
+  G = graphOf s (typesOf s)
+
+  pub struct-is : (i : ℕ) → T (graphOf s (typesOf s) .struct i) ↔ IsStruct s i
+  struct-is i = (
+    λ t. record { below = ltb→lt i (items s) (and-left (ltb i (items s)) (itemIs s Struct i) t); is-struct = true-kind i (and-right (ltb i (items s)) (itemIs s Struct i) t) },
+    λ h. and-both (ltb i (items s)) (itemIs s Struct i) (lt→ltb i (items s) (h .below)) (kind-true i (h .is-struct)),
+  )
+
+  -- a name's last struct, as the table has it
+  struct-of : (n : ℕ) → n < 256 → Last s (entersStructs s) (items s) n (structOf (typesOf s) n)
+  unfolding structOf typesOf
+  struct-of n l = last-is s (entersStructs s) (items s) n l
+
+  named-small : (n : ℕ) → structOf (typesOf s) n ≢ 255 → n < 256
+  unfolding structOf typesOf
+  named-small n h = go (decLt n 256)
+    where
+      go : Dec (n < 256) → n < 256
+      go (yes l) = l
+      go (no m) = absurd (h (List·getD-eq-default (lastTo s (entersStructs s) (items s)) 255 (omega (arith, length-last s (entersStructs s) (items s)))))
+
+  enters : (i : ℕ) → T (entersStructs s i) → itemKind s i ≡ Struct
+  unfolding entersStructs
+  enters i t = true-kind i t
+
+  entered : (i : ℕ) → itemKind s i ≡ Struct → T (entersStructs s i)
+  unfolding entersStructs
+  entered i e = kind-true i e
+
+  pub of-last : (n i : ℕ) → structOf (typesOf s) n ≡ i → i ≢ 255 → LastStruct s n i
+  of-last n i e ne = go (structOf (typesOf s) n) e (struct-of n (named-small n (λ q. ne (sym e ∙ q))))
+    where
+      go : (r : ℕ) → r ≡ i → Last s (entersStructs s) (items s) n r → LastStruct s n i
+      go r q (no-one f) = absurd (ne (sym q))
+      go r q (last l t b f) =
+          subst (λ (x : ℕ). LastStruct s n x) q (record { struct = record { below = l; is-struct = enters r t }; bears = b; last = λ j h d. f j (h .below) (entered j (h .is-struct)) d })
+
+  pub last-of : Fits s → (n i : ℕ) → LastStruct s n i → structOf (typesOf s) n ≡ i
+  last-of fits n i h = go (structOf (typesOf s) n) refl (struct-of n (subst (λ (x : ℕ). x < 256) (h .bears) (struct-named s fits i (h .struct))))
+    where
+      go : (r : ℕ) → structOf (typesOf s) n ≡ r → Last s (entersStructs s) (items s) n r → structOf (typesOf s) n ≡ i
+      go r e (no-one f) = absurd (f i (h .struct .below) (entered i (h .struct .is-struct)) (h .bears))
+      go r e (last l t b f) =
+          let a : i ≤ r = f i (h .struct .below) (entered i (h .struct .is-struct)) (h .bears) in
+          let c : r ≤ i = h .last r (record { below = l; is-struct = enters r t }) b in
+          e ∙ omega arith
+
+  -- ## Fields
+
+  pub edge-holds : (i j : ℕ) → IsStruct s i → Edge (graphOf s (typesOf s)) i j → Holds s i j
+  unfolding leadsTo is if_then_else_
+  edge-holds i j si e = go (is s Ident (field s i (e .place))) refl (e .leads)
+    where
+      go : (b : Bool) → is s Ident (field s i (e .place)) ≡ b → (if b then structOf (typesOf s) (rowName s (field s i (e .place))) else none) ≡ j → Holds s i j
+      go true p q = record { holder = si; number = e .place; is-field = e .is-field; plain = eqb-true (kind s (field s i (e .place))) 0 p; leads = of-last (rowName s (field s i (e .place))) j q (e .is-item) }
+      go false p q = absurd (e .is-item (sym q))
+
+  pub holds-edge : Fits s → (i j : ℕ) → Holds s i j → Edge (graphOf s (typesOf s)) i j
+  unfolding leadsTo is if_then_else_
+  holds-edge fits i j h =
+      record {
+        place = h .number;
+        is-field = h .is-field;
+        leads = go (is s Ident (field s i (h .number))) refl;
+        is-item = λ q. omega (arith, h .leads .struct .below, fits .few);
+      }
+    where
+      go : (b : Bool) → is s Ident (field s i (h .number)) ≡ b → (if b then structOf (typesOf s) (rowName s (field s i (h .number))) else none) ≡ j
+      go true p = last-of fits (rowName s (field s i (h .number))) j (h .leads)
+      go false p = absurd (subst T p (subst (λ (x : ℕ). T (eqb x 0)) (sym (h .plain)) (eqb-refl 0)))
+
+  -- ## The graph
+
+  leads-struct : (i k : ℕ) → leadsTo s (typesOf s) i k ≢ 255 → IsStruct s (leadsTo s (typesOf s) i k)
+  unfolding leadsTo if_then_else_
+  leads-struct i k ne = go (is s Ident (field s i k)) ne
+    where
+      n : ℕ
+      n = rowName s (field s i k)
+
+      go : (b : Bool) → (if b then structOf (typesOf s) n else none) ≢ 255 → IsStruct s (if b then structOf (typesOf s) n else none)
+      go true h = of-last n (structOf (typesOf s) n) refl h .struct
+      go false h = absurd (h refl)
+
+  -- over the items of the sheet, and over all items that a sheet can have
+  pub good-for : Fits s → (n : ℕ) → items s ≤ n → n ≤ 255 → Good (graphOf s (typesOf s)) n
+  good-for fits n least few = record { few = few; below = λ x t. omega (arith, struct-is x .0 t .below); closed = λ i k l ne. struct-is (leadsTo s (typesOf s) i k) .1 (leads-struct i k ne) }
+
+  pub good : Fits s → Good (graphOf s (typesOf s)) 255
+  good fits = good-for fits 255 (fits .few) (omega arith)
+
+  pub good-items : Fits s → Good (graphOf s (typesOf s)) (items s)
+  good-items fits = good-for fits (items s) (omega arith) (fits .few)

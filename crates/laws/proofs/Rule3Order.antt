@@ -1,0 +1,140 @@
+-- Rule 3 of the order and of the tiers, in the words of the sheet.
+-- Assumes nothing.
+use Prim.Native.Nat.{ℕ, zero, suc, _+_, _≤_, _<_, min}
+use mathlib.Core.Path.{_≡_, refl, sym, ap, _∙_, subst}
+use mathlib.Core.Logic.{_≢_, _⊎_, inl, inr, _↔_}
+use mathlib.Core.Bool.{Bool, true, false, _&&_}
+use mathlib.Core.List.{List, [], _∷_}
+use native.Mathlib.Omega.{arith}
+use lib.Dec.{T, eqb, ltb, ltb→lt, lt→ltb}
+use lib.ListN.{length, getD, take, drop, replicate, length-replicate}
+use lib.Seq.{sets, sets-eq, take-at}
+use Rattle.rules.specs.Diagnostics.{bit}
+use Rattle.rules.specs.View.{Struct, items, itemIs}
+use Rattle.rules.specs.Types.{typesOf}
+use Rattle.rules.specs.Count.{count, place}
+use Rattle.rules.specs.Graph.{Graph}
+use Rattle.laws.proofs.Chains.{Good, Edge, Chain, edge, link, Cycle, Endless}
+use Rattle.rules.specs.Walk.{Out, sortOut}
+use Rattle.rules.specs.Tiers.{tiersOf}
+use Rattle.rules.specs.Answer.{places}
+use Rattle.laws.proofs.TierRule.{TierRule}
+use Rattle.rules.specs.Order.{graphOf}
+use Rattle.rules.specs.Rule3.{IsStruct, Holds, Tiers3, structsTo, one, more}
+use Rattle.rules.specs.Rule3 as R
+use Rattle.laws.proofs.Counts.{Eq?, same, other, eq?}
+use Rattle.laws.proofs.WalkOrder.{InOrder, in-order, each-once, chain-end}
+use Rattle.laws.proofs.WalkCalls.{sumTo, order-length, order-few}
+use Rattle.laws.proofs.TierTable.{table-all, table-none}
+use Rattle.laws.proofs.TierRule.{tier-rule}
+use Rattle.laws.proofs.LastItems.{good-items, Fits, struct-is, edge-holds, holds-edge, good}
+
+is-true : (b : Bool) → T b → b ≡ true
+is-true true t = refl
+is-true false t = absurd t
+
+is-false : (b : Bool) → (T b → ⊥) → b ≡ false
+is-false true f = absurd (f tt)
+is-false false f = refl
+
+module _ (s : List ℕ) (fits : Fits s) where
+  abbrev G : Graph
+  G = graphOf s (typesOf s)
+
+  abbrev sorted : List ℕ
+  sorted = sortOut (graphOf s (typesOf s)) 255 .sorted
+
+  -- ## Chains
+
+  held-struct : {i k : ℕ} → Holds s i k → IsStruct s k
+  held-struct h = h .leads .struct
+
+  pub chain-to : {i k : ℕ} → IsStruct s i → Chain G i k → R.Chain s i k
+  chain-to {i} {k} si (edge e) = one (edge-holds s i k si e)
+  chain-to {i} si (link {j = j} e c) = let h = edge-holds s i j si e in more h (chain-to (held-struct h) c)
+
+  pub chain-from : {i k : ℕ} → R.Chain s i k → Chain G i k
+  chain-from {i} {k} (one h) = edge (holds-edge s fits i k h)
+  chain-from {i} (more {j = j} h c) = link (holds-edge s fits i j h) (chain-from c)
+
+  pub cycle-is : Cycle G ↔ R.Cycle s
+  cycle-is = (λ c. (c .0, chain-to (struct-is s (c .0) .0 (chain-end G 255 (good s fits) (c .1))) (c .1)), λ c. (c .0, chain-from (c .1)))
+
+  pub endless-is : (i : ℕ) → IsStruct s i → Endless G i ↔ R.Endless s i
+  endless-is i si = (
+    λ e. record { at = e .at; begins = e .begins; goes-on = λ n. edge-holds s (e .at n) (e .at (suc n)) (at-struct e n) (e .goes-on n) },
+    λ e. record { at = e .at; begins = e .begins; goes-on = λ n. holds-edge s fits (e .at n) (e .at (suc n)) (e .goes-on n) },
+  )
+    where
+      at-struct : (e : Endless G i) (n : ℕ) → IsStruct s (e .at n)
+      at-struct e zero = subst (λ (x : ℕ). IsStruct s x) (sym (e .begins)) si
+      at-struct e (suc n) = struct-is s (e .at (suc n)) .0 (chain-end G 255 (good s fits) (edge (e .goes-on n)))
+
+  -- ## The order's places
+
+  struct-bit : ℕ → ℕ
+  struct-bit x = bit (ltb x (items s) && itemIs s Struct x)
+
+  sum-low : (k : ℕ) → k ≤ items s → sumTo k (λ x. bit (G .struct x)) ≡ structsTo s k
+  unfolding sumTo structsTo
+  sum-low zero l = refl
+  sum-low (suc k) l = rw (is-true (ltb k (items s)) (lt→ltb k (items s) l), sum-low k (omega arith))
+
+  sum-high : (k : ℕ) → items s ≤ k → sumTo k (λ x. bit (G .struct x)) ≡ structsTo s (items s)
+  unfolding sumTo
+  sum-high zero l = sum-low zero (omega arith) ∙ ap (structsTo s) (let e : 0 ≡ items s = omega arith in e)
+  sum-high (suc k) l = go (eq? (items s) (suc k)) (sum-high k)
+    where
+      go : Eq? (items s) (suc k) → (items s ≤ k → sumTo k (λ x. bit (G .struct x)) ≡ structsTo s (items s)) → sumTo k (λ x. bit (G .struct x)) + bit (G .struct k) ≡ structsTo s (items s)
+      go (same _ e) ih = sum-low (suc k) (omega arith) ∙ ap (structsTo s) (sym e)
+      go (other _ e) ih =
+          let z : ltb k (items s) ≡ false = is-false (ltb k (items s)) (λ t. let l′ = ltb→lt k (items s) t in omega arith) in
+          rw z (omega (arith, ih (omega arith)))
+
+  pub places-are : length sorted ≡ structsTo s (items s)
+  places-are = order-length G 255 (good s fits) ∙ sum-high 255 (fits .few)
+
+  pub order-is : take (structsTo s (items s)) (places sorted) ≡ sorted
+  unfolding places
+  order-is = ap (λ n. take n (places sorted)) (sym places-are) ∙ stored (replicate 255 0) sorted (let l : length sorted ≤ 255 = order-few G 255 (good s fits) in subst (λ (n : ℕ). length sorted ≤ n) (sym (length-replicate {A = ℕ} 255 0)) l)
+    where
+      stored : (l o : List ℕ) → length o ≤ length l → take (length o) (sets l 0 o) ≡ o
+      stored l o h = rw (sets-eq o l 0 (omega arith)) (take-at o (drop (0 + length o) l) (length o) refl)
+
+  pub once-is : (i : ℕ) → IsStruct s i → count i sorted ≡ 1
+  once-is i si = each-once G 255 (good s fits) i ∙ ap bit (is-true (G .struct i) (struct-is s i .1 si))
+
+  pub none-is : (i : ℕ) → (IsStruct s i → ⊥) → count i sorted ≡ 0
+  none-is i ns = each-once G 255 (good s fits) i ∙ ap bit (is-false (G .struct i) (λ t. ns (struct-is s i .0 t)))
+
+  pub after-is : ((i k : ℕ) → Holds s i k → place sorted k < place sorted i) ↔ (R.Cycle s → ⊥)
+  after-is =
+      let r = in-order G 255 (good s fits) in (
+        λ h c. r .0 (λ i j si e. h i j (edge-holds s i j (struct-is s i .0 si) e)) (cycle-is .1 c),
+        λ n i k h. r .1 (λ c. n (cycle-is .0 c)) i k (struct-is s i .1 (h .holder)) (holds-edge s fits i k h),
+      )
+
+  -- ## Tiers
+
+  pub tiers-are : Tiers3 s (places (tiersOf (graphOf s (typesOf s)) (items s)))
+  tiers-are =
+      record {
+        endless = λ i si. (λ e. endless-is i si .0 (rule .endless i (t i si) .0 e), λ e. rule .endless i (t i si) .1 (endless-is i si .1 e));
+        bare = λ i si h. rule .bare i (t i si) (λ j e. h j (edge-holds s i j si e));
+        no-less = λ i k si h g. rule .no-less i k (t i si) (λ e. h (endless-is i si .0 e)) (holds-edge s fits i k g);
+        no-more = λ i si h. most i si (rule .no-more i (t i si) (λ e. h (endless-is i si .0 e)));
+        others = λ i ns. table-none G (items s) (good-items s fits) (fits .few) i (λ u. ns (struct-is s i .0 u));
+      }
+    where
+      table : List ℕ
+      table = places (tiersOf (graphOf s (typesOf s)) (items s))
+
+      t : (i : ℕ) → IsStruct s i → T (G .struct i)
+      t i si = struct-is s i .1 si
+
+      rule : TierRule G (λ x. getD table x 0)
+      rule = tier-rule G (items s) (good-items s fits) (λ x. getD table x 0) (table-all G (items s) (good-items s fits) (fits .few))
+
+      most : (i : ℕ) → IsStruct s i → (getD table i 0 ≡ 0) ⊎ ((j : ℕ) × Edge G i j × (getD table i 0 ≡ min 254 (suc (getD table j 0)))) → (getD table i 0 ≡ 0) ⊎ ((k : ℕ) × Holds s i k × (getD table i 0 ≡ min 254 (suc (getD table k 0))))
+      most i si (inl e) = inl e
+      most i si (inr r) = inr (r .0, edge-holds s i (r .0) si (r .1), r .2)

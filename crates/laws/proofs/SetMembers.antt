@@ -1,0 +1,119 @@
+-- A name is in a set of collected names exactly where an item that enters the set bears it.
+-- Assumes nothing.
+use Prim.Native.Nat.{ℕ, zero, suc, _≤_, _<_}
+use mathlib.Core.Path.{_≡_, refl, sym, ap, _∙_, subst}
+use mathlib.Core.Logic.{_↔_, _⊎_, inl, inr}
+use mathlib.Core.Bool.{Bool, true, false, _&&_, _||_}
+use mathlib.Core.List.{List}
+use native.Mathlib.Omega.{arith}
+use lib.Dec.{T, eqb, leb, eqb→eq, eqb-refl}
+use lib.ListN.{length}
+use Rattle.rules.specs.Names.{Words, empty, add, _∋_}
+use Rattle.rules.specs.View.{Struct, RustType, TypeAlias, items, itemKind, itemIs, itemName, isType}
+use Rattle.rules.specs.Collect.{namesTo, entersStructs, entersRust, entersAliases}
+use Rattle.rules.specs.Types.{Types, typesOf}
+use Rattle.rules.specs.Rule3.{Borne}
+use Rattle.laws.proofs.Counts.{Eq?, same, other, eq?}
+use Rattle.laws.proofs.NameSets.{has-add, length-add, has-empty}
+use Rattle.laws.proofs.LastItems.{Fits, kind-type}
+
+-- one of the first k items that pass bears the name n
+pub record Member (s : List ℕ) (p : ℕ → Bool) (k n : ℕ) : Type 0 where
+  pub item : ℕ
+  pub below : item < k
+  pub passes : T (p item)
+  pub bears : itemName s item ≡ n
+
+or-cases : (a b : Bool) → T (a || b) → T a ⊎ T b
+or-cases true b t = inl tt
+or-cases false b t = inr t
+
+or-left : (a b : Bool) → T a → T (a || b)
+or-left true b t = tt
+or-left false b t = absurd t
+
+or-right : (a b : Bool) → T b → T (a || b)
+or-right true b t = tt
+or-right false b t = t
+
+module _ (s : List ℕ) (p : ℕ → Bool) where
+  pub length-names : (k : ℕ) → length (namesTo s p k) ≡ 4
+  unfolding namesTo
+  length-names zero = refl
+  length-names (suc k) = go (p k) (length-names k)
+    where
+      go : (b : Bool) → length (namesTo s p k) ≡ 4 → length {A = ℕ} (elim b as (λ _. Words) [ true ↦ add (namesTo s p k) (itemName s k) | false ↦ namesTo s p k ]) ≡ 4
+      go true h = length-add (namesTo s p k) (itemName s k) ∙ h
+      go false h = h
+
+  wider : {k n : ℕ} → Member s p k n → Member s p (suc k) n
+  wider {k} m = let l : m .item < k = m .below in record { item = m .item; below = omega arith; passes = m .passes; bears = m .bears }
+
+  pub member-is : (k : ℕ) → ((i : ℕ) → i < k → T (p i) → itemName s i < 256) → (n : ℕ) → T (namesTo s p k ∋ n) ↔ Member s p k n
+  unfolding namesTo
+  member-is zero h n = (λ t. absurd (subst T (has-empty n) t), λ m. let l : m .item < 0 = m .below in absurd (omega arith))
+  member-is (suc k) h n = go (p k) refl (member-is k (λ i l. h i (omega arith)) n)
+    where
+      w : Words
+      w = namesTo s p k
+
+      narrow : p k ≡ false → Member s p (suc k) n → Member s p k n
+      narrow e m = at (m .item) (m .below) (m .passes) (m .bears)
+        where
+          at : (i : ℕ) → i < suc k → T (p i) → itemName s i ≡ n → Member s p k n
+          at i l t b = by (eq? i k)
+            where
+              by : Eq? i k → Member s p k n
+              by (same _ d) = absurd (subst T (ap p d ∙ e) t)
+              by (other _ d) = record { item = i; below = omega arith; passes = t; bears = b }
+
+      go : (b : Bool) → p k ≡ b → T (w ∋ n) ↔ Member s p k n → T ((elim b as (λ _. Words) [ true ↦ add w (itemName s k) | false ↦ w ]) ∋ n) ↔ Member s p (suc k) n
+      go false e ih = (λ t. wider (ih .0 t), λ m. ih .1 (narrow e m))
+      go true e ih = (λ t. to (or-cases (eqb n (itemName s k)) (w ∋ n) (subst T a t)), λ m. subst T (sym a) (from m))
+        where
+          tk : T (p k)
+          tk = subst T (sym e) tt
+
+          a : (add w (itemName s k) ∋ n) ≡ (eqb n (itemName s k) || w ∋ n)
+          a = has-add w (itemName s k) n (length-names k) (h k (omega arith) tk)
+
+          to : T (eqb n (itemName s k)) ⊎ T (w ∋ n) → Member s p (suc k) n
+          to (inl t) = record { item = k; below = omega arith; passes = tk; bears = sym (eqb→eq n (itemName s k) t) }
+          to (inr t) = wider (ih .0 t)
+
+          from : Member s p (suc k) n → T (eqb n (itemName s k) || w ∋ n)
+          from m = by (eq? (m .item) k)
+            where
+              by : Eq? (m .item) k → T (eqb n (itemName s k) || w ∋ n)
+              by (same _ d) = or-left (eqb n (itemName s k)) (w ∋ n) (subst (λ (x : ℕ). T (eqb x (itemName s k))) (ap (itemName s) (sym d) ∙ m .bears) (eqb-refl (itemName s k)))
+              by (other _ d) = let l : m .item < suc k = m .below in or-right (eqb n (itemName s k)) (w ∋ n) (ih .1 (record { item = m .item; below = omega arith; passes = m .passes; bears = m .bears }))
+
+-- ## The sets of rule 3
+
+module _ (s : List ℕ) (fits : Fits s) where
+  -- of a test that asks for one kind
+  of-kind : (k : ℕ) → T ((leb 1 k && leb k 4) || eqb k 7) → (p : ℕ → Bool) → ((i : ℕ) → T (p i) ↔ (itemKind s i ≡ k)) → (n : ℕ) → T (namesTo s p (items s) ∋ n) ↔ Borne s k n
+  of-kind k tk p is-p n =
+      let r = member-is s p (items s) (λ i l t. fits .named i l (kind-type s k tk i (is-p i .0 t))) n in (
+        λ t. let m = r .0 t in record { item = m .item; below = m .below; is-kind = is-p (m .item) .0 (m .passes); bears = m .bears },
+        λ b. r .1 (record { item = b .item; below = b .below; passes = is-p (b .item) .1 (b .is-kind); bears = b .bears }),
+      )
+
+  kind-is : (k i : ℕ) → T (itemIs s k i) ↔ (itemKind s i ≡ k)
+  unfolding itemIs
+  kind-is k i = (λ t. eqb→eq (itemKind s i) k t, λ e. subst (λ (x : ℕ). T (eqb x k)) (sym e) (eqb-refl k))
+
+  pub structs-are : (n : ℕ) → T (typesOf s .structs ∋ n) ↔ Borne s Struct n
+  unfolding typesOf entersStructs
+  structs-are n = of-kind Struct tt (entersStructs s) (λ i. kind-is Struct i) n
+
+  pub rust-are : (n : ℕ) → T (typesOf s .rust ∋ n) ↔ Borne s RustType n
+  unfolding typesOf entersRust
+  rust-are n = of-kind RustType tt (entersRust s) (λ i. kind-is RustType i) n
+
+  pub aliases-are : (n : ℕ) → T (typesOf s .aliases ∋ n) ↔ Borne s TypeAlias n
+  unfolding typesOf entersAliases
+  aliases-are n = of-kind TypeAlias tt (entersAliases s) (λ i. kind-is TypeAlias i) n
+
+  pub borne-small : (k : ℕ) → T ((leb 1 k && leb k 4) || eqb k 7) → (n : ℕ) → Borne s k n → n < 256
+  borne-small k tk n b = subst (λ (x : ℕ). x < 256) (b .bears) (fits .named (b .item) (b .below) (kind-type s k tk (b .item) (b .is-kind)))
