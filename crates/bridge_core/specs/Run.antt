@@ -43,7 +43,7 @@ abbrev pub kept : List ℕ → (from : ℕ) → List ℕ → List ℕ
 kept out from codes = sets out 0 (drop from codes)
 
 -- what `run` does
-pub record Ran (s scratch out : List ℕ) (from : ℕ) (r : Answer) (scratch′ out′ : List ℕ) : Type 0 where
-  pub answer : r ≡ answerOf s (length scratch)
-  pub scratch : scratch′ ≡ scratchOf s scratch
-  pub window : out′ ≡ kept out from (codesOf s (length scratch))
+pub record Ran (s scratch₀ out : List ℕ) (from : ℕ) (r : Answer) (scratch′ out′ : List ℕ) : Type 0 where
+  pub answer : r ≡ answerOf s (length scratch₀)
+  pub scratch : scratch′ ≡ scratchOf s scratch₀
+  pub window : out′ ≡ kept out from (codesOf s (length scratch₀))
