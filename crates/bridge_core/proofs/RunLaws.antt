@@ -17,7 +17,7 @@ use Rattle.rules.specs.Answer.{Outcome, refused, accepted, readWith, filled, cl
 use Rattle.errors.specs.Codes.{codeOf, recordOf}
 use Rattle.bridge_core.specs.Run.{answerBy, codesBy, scratchBy, answerOf, codesOf, scratchOf}
 
-length-map : {A B : Type 0} (f : A → B) (xs : List A) → length (map f xs) ≡ length xs
+pub length-map : {A B : Type 0} (f : A → B) (xs : List A) → length (map f xs) ≡ length xs
 length-map f [] = refl
 length-map f (x ∷ xs) = ap suc (length-map f xs)
 

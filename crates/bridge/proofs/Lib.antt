@@ -1,0 +1,6 @@
+pub mod Buffer
+pub mod Again
+pub mod Relend
+pub mod Stores
+pub mod Records
+pub mod Turn
