@@ -44,8 +44,10 @@ fn full_answer(answer: &Answer) -> String {
         }
     }
     text += &line("order", &answer.order);
-    for item in &answer.order {
-        writeln!(text, "tier {item} {}", answer.tiers[*item as usize]).unwrap();
+    let mut structs = answer.order.clone();
+    structs.sort();
+    for item in structs {
+        writeln!(text, "tier {item} {}", answer.tiers[item as usize]).unwrap();
     }
     text += &line("collected", &answer.collected);
     for record in &answer.records {
