@@ -21,16 +21,8 @@ pub enum Outcome {
     Accepted(Box<Answer>),
 }
 
-pub const SETS: [&str; 8] = [
-    "structs",
-    "enums",
-    "cxx",
-    "rust",
-    "aliases",
-    "untrusted",
-    "required-trivial",
-    "improper",
-];
+pub const SETS: [&str; 8] =
+    ["structs", "enums", "cxx", "rust", "aliases", "untrusted", "required-trivial", "improper"];
 
 /// Name n is bit n mod 64 of word n / 64.
 pub type Set = [u64; 4];
@@ -106,6 +98,19 @@ pub fn bench(bytes: &[u8]) -> Option<(Duration, usize)> {
     let time = start.elapsed();
     drop(types);
     Some((time, errors.errors.len()))
+}
+
+/// Each record with the source line of its error call.
+#[cfg(feature = "lines")]
+pub fn with_lines(bytes: &[u8]) -> Vec<(Record, crate::lines::Line)> {
+    let Some(sheet) = reader::read(bytes).ok().filter(|sheet| !too_large(sheet)) else {
+        return Vec::new();
+    };
+    let apis = tree::build(&sheet);
+    let mut errors = Errors::new();
+    let reasons = reasons(&run(&mut errors, &apis));
+    let records = errors.errors.iter().map(|error| record(&sheet, &reasons, error));
+    records.zip(errors.lines).collect()
 }
 
 fn names() -> impl Iterator<Item = (usize, Ident)> {

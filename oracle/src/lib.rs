@@ -5,6 +5,8 @@ pub mod book;
 pub mod coverage;
 pub mod generate;
 pub mod judge;
+#[cfg(feature = "lines")]
+pub mod lines;
 pub mod messages;
 pub mod print;
 pub mod proved;

@@ -35,12 +35,7 @@ pub fn read(bytes: &[u8]) -> Result<Sheet> {
     if contents > bytes.len() {
         return refuse(5, 0);
     }
-    let mut reader = Reader {
-        bytes,
-        at: contents,
-        bound: 0,
-        sheet: Sheet::default(),
-    };
+    let mut reader = Reader { bytes, at: contents, bound: 0, sheet: Sheet::default() };
     reader.read_rows(rows)?;
     reader.read_items(rows, items)?;
     if reader.at < bytes.len() {
@@ -165,11 +160,9 @@ impl Reader<'_> {
             9 => Row::Str,
             10 => Row::SliceRef { flags: self.up_to(1)?, inner: self.row_number()? },
             11 => Row::Array { length: self.pair()?, inner: self.row_number()? },
-            12 => Row::Fn {
-                flags: self.up_to(3)?,
-                ret: self.ret()?,
-                args: self.row_list(MAX_ARGS)?,
-            },
+            12 => {
+                Row::Fn { flags: self.up_to(3)?, ret: self.ret()?, args: self.row_list(MAX_ARGS)? }
+            }
             _ => Row::Void,
         })
     }

@@ -21,13 +21,32 @@ pub struct Sheet {
 pub enum Row {
     Ident(u16),
     /// Kinds 1 to 6.
-    Ty1 { kind: u16, inner: u16 },
-    Ref { flags: u16, inner: u16 },
-    Ptr { flags: u16, inner: u16 },
+    Ty1 {
+        kind: u16,
+        inner: u16,
+    },
+    Ref {
+        flags: u16,
+        inner: u16,
+    },
+    Ptr {
+        flags: u16,
+        inner: u16,
+    },
     Str,
-    SliceRef { flags: u16, inner: u16 },
-    Array { length: u16, inner: u16 },
-    Fn { flags: u16, ret: Option<u16>, args: Vec<u16> },
+    SliceRef {
+        flags: u16,
+        inner: u16,
+    },
+    Array {
+        length: u16,
+        inner: u16,
+    },
+    Fn {
+        flags: u16,
+        ret: Option<u16>,
+        args: Vec<u16>,
+    },
     Void,
 }
 

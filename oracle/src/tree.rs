@@ -148,9 +148,8 @@ fn brace(span: Span) -> token::Brace {
 }
 
 fn derives(head: &Head, number: usize) -> Vec<Derive> {
-    let derive = |(index, &what): (usize, &u16)| {
-        Derive::numbered(what, Span::at(b'D', number, index))
-    };
+    let derive =
+        |(index, &what): (usize, &u16)| Derive::numbered(what, Span::at(b'D', number, index));
     head.derives.iter().enumerate().map(derive).collect()
 }
 

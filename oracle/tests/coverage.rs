@@ -34,11 +34,9 @@ fn records(sheet: &[u8]) -> Option<usize> {
 
 #[test]
 fn full_sheets() {
-    for (name, least, most) in [
-        ("full-none", 0, 0),
-        ("full-many", 10_000, 30_000),
-        ("full-mixed", 1_000, 10_000),
-    ] {
+    for (name, least, most) in
+        [("full-none", 0, 0), ("full-many", 10_000, 30_000), ("full-mixed", 1_000, 10_000)]
+    {
         let profile = oracle::generate::Profile::find(name).expect("a profile");
         for number in 0..3 {
             let sheet = profile.sheet(7, number);

@@ -69,9 +69,7 @@ pub fn none(rng: &mut Rng, _: u64) -> Vec<u8> {
     fill(&mut draft, |number| {
         let field = |_| match rng.below(4) {
             0 if backward && number > 0 => structs[rng.below(number)],
-            0 if !backward && number + 1 < CERTAIN => {
-                structs[rng.from_to(number + 1, CERTAIN - 1)]
-            }
+            0 if !backward && number + 1 < CERTAIN => structs[rng.from_to(number + 1, CERTAIN - 1)],
             _ => rng.pick(&rows),
         };
         (24 + number as u16, (0..64).map(field).collect())

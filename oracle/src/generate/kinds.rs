@@ -184,5 +184,4 @@ pub fn derives(rng: &mut Rng, _: u64) -> Vec<u8> {
 }
 
 /// Each derive, those that some check asks about more often.
-const DERIVES: [u16; 21] =
-    [0, 1, 2, 3, 4, 5, 6, 7, 8, 9, 10, 11, 12, 13, 14, 3, 3, 3, 14, 14, 14];
+const DERIVES: [u16; 21] = [0, 1, 2, 3, 4, 5, 6, 7, 8, 9, 10, 11, 12, 13, 14, 3, 3, 3, 14, 14, 14];

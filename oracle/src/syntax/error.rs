@@ -12,10 +12,7 @@ impl Display for Error {
     }
 }
 
-pub(crate) static BOX_CXX_TYPE: Error = Error {
-    msg: "Box of a C++ type is not supported yet",
-};
+pub(crate) static BOX_CXX_TYPE: Error = Error { msg: "Box of a C++ type is not supported yet" };
 
-pub(crate) const RESERVED_LIFETIME: Error = Error {
-    msg: "invalid lifetime parameter name: `'static`",
-};
+pub(crate) const RESERVED_LIFETIME: Error =
+    Error { msg: "invalid lifetime parameter name: `'static`" };

@@ -14,14 +14,12 @@ pub(crate) struct Symbol {
 
 pub(crate) fn typename(ty: &Type, res: &UnorderedMap<&Ident, Resolution>) -> Option<Symbol> {
     match ty {
-        Type::Ident(ty) => res.get(&ty.rust).map(|found| Symbol {
-            vectors: 0,
-            name: found.name.rust.number,
-        }),
-        Type::CxxVector(ty) => typename(&ty.inner, res).map(|symbol| Symbol {
-            vectors: symbol.vectors + 1,
-            ..symbol
-        }),
+        Type::Ident(ty) => {
+            res.get(&ty.rust).map(|found| Symbol { vectors: 0, name: found.name.rust.number })
+        }
+        Type::CxxVector(ty) => {
+            typename(&ty.inner, res).map(|symbol| Symbol { vectors: symbol.vectors + 1, ..symbol })
+        }
         _ => None,
     }
 }

@@ -22,11 +22,7 @@ pub struct IndexMap<K, V> {
 
 impl<K, V> IndexMap<K, V> {
     pub fn new() -> Self {
-        IndexMap {
-            entries: Vec::new(),
-            table: Vec::new(),
-            hasher: RandomState::new(),
-        }
+        IndexMap { entries: Vec::new(), table: Vec::new(), hasher: RandomState::new() }
     }
 
     pub fn len(&self) -> usize {
@@ -128,11 +124,7 @@ impl<K: Hash + Eq, V> IndexMap<K, V> {
         let hash = self.hasher.hash_one(&key);
         match self.find(hash, &key) {
             Some(index) => Entry::Occupied(OccupiedEntry { map: self, index }),
-            None => Entry::Vacant(VacantEntry {
-                map: self,
-                hash,
-                key,
-            }),
+            None => Entry::Vacant(VacantEntry { map: self, hash, key }),
         }
     }
 }

@@ -15,11 +15,7 @@ pub struct Span {
 
 impl Span {
     pub const fn at(letter: u8, first: usize, second: usize) -> Self {
-        Span {
-            letter,
-            first: first as u16,
-            second: second as u16,
-        }
+        Span { letter, first: first as u16, second: second as u16 }
     }
 
     pub const fn call_site() -> Self {
@@ -55,9 +51,7 @@ pub struct Group {
 
 impl Group {
     pub fn new(_delimiter: Delimiter, _stream: TokenStream) -> Self {
-        Group {
-            span: Span::call_site(),
-        }
+        Group { span: Span::call_site() }
     }
 
     pub fn set_span(&mut self, span: Span) {

@@ -14,10 +14,7 @@ pub type Result<T> = std::result::Result<T, Error>;
 
 impl Error {
     pub fn new(span: Span, message: impl Display) -> Self {
-        Error {
-            span,
-            text: message.to_string(),
-        }
+        Error { span, text: message.to_string() }
     }
 
     pub fn new_spanned(subject: impl ToTokens, message: impl Display) -> Self {
