@@ -8,12 +8,13 @@ use crate::{print, proved};
 const STORED: usize = 4_096;
 
 /// Profile, seed, first number, how many, step from one number to the next.
-const RUNS: [(&str, u64, u64, u64, u64); 26] = [
+const RUNS: [(&str, u64, u64, u64, u64); 27] = [
     ("limits", 1, 0, 40, 1),
     ("cuts", 1, 0, 45, 7),
     ("offsets", 1, 0, 40, 5),
     ("values", 1, 0, 70, 61),
     ("damaged", 1, 0, 70, 1),
+    ("changed", 1, 0, 40, 1),
     ("pairs", 1, 0, 144, 1),
     ("pairs", 1, 144, 30, 13),
     ("triples", 1, 0, 30, 1),

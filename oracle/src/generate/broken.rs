@@ -169,6 +169,28 @@ pub fn damaged(rng: &mut Rng, number: u64) -> Vec<u8> {
     bytes
 }
 
+/// A good sheet with one to three pairs of its bodies changed, the contents
+/// right: one in four is accepted.
+pub fn changed(rng: &mut Rng, number: u64) -> Vec<u8> {
+    let good = &PROFILES[rng.below(GOOD)];
+    let mut draft = Draft::from_bytes(&good.sheet(rng.next(), number));
+    for _ in 0..rng.from_to(1, 3) {
+        let bodies = draft.rows.iter_mut().chain(&mut draft.items);
+        let mut pairs: Vec<&mut u16> = bodies.flatten().collect();
+        if pairs.is_empty() {
+            break;
+        }
+        let place = rng.below(pairs.len());
+        *pairs[place] = match rng.below(4) {
+            0 => *pairs[place] ^ 1,
+            1 => (*pairs[place]).wrapping_add(1),
+            2 => (*pairs[place]).wrapping_sub(1),
+            _ => rng.below(28) as u16,
+        };
+    }
+    draft.bytes()
+}
+
 fn set_pair(bytes: &mut [u8], place: usize, value: u16) {
     let place = place / 2 * 2;
     if place + 2 <= bytes.len() {

@@ -13,6 +13,20 @@ impl Draft {
         Draft::default()
     }
 
+    /// The bodies of an accepted sheet.
+    pub fn from_bytes(bytes: &[u8]) -> Self {
+        let pairs: Vec<u16> =
+            bytes.chunks(2).map(|pair| u16::from_le_bytes([pair[0], pair[1]])).collect();
+        let (rows, items) = (pairs[0] as usize, pairs[1] as usize);
+        let mut offsets: Vec<usize> =
+            pairs[2..2 + rows + items].iter().map(|&offset| offset as usize / 2).collect();
+        offsets.push(pairs.len());
+        let bodies = offsets.windows(2).map(|ends| pairs[ends[0]..ends[1]].to_vec());
+        let mut rows_and_items: Vec<Vec<u16>> = bodies.collect();
+        let items = rows_and_items.split_off(rows);
+        Draft { rows: rows_and_items, items }
+    }
+
     /// The number of this row, which is added if there is none like it.
     pub fn row(&mut self, pairs: &[u16]) -> u16 {
         let found = self.rows.iter().position(|row| row == pairs);

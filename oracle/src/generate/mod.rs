@@ -26,7 +26,7 @@ const fn profile(name: &'static str, about: &'static str, make: Make) -> Profile
     Profile { name, about, make }
 }
 
-pub const PROFILES: [Profile; 25] = [
+pub const PROFILES: [Profile; 26] = [
     profile("tiny", "up to 6 rows and 4 items, names 0 to 30", random::tiny),
     profile("small", "up to 24 rows and 12 items, names 0 to 30", random::small),
     profile("medium", "up to 80 rows and 40 items, all names", random::medium),
@@ -52,6 +52,7 @@ pub const PROFILES: [Profile; 25] = [
     profile("offsets", "case by case: each offset wrong, bytes left over", broken::offsets),
     profile("values", "case by case: each pair replaced by bounds", broken::values),
     profile("damaged", "good sheets with random damage", broken::damaged),
+    profile("changed", "good sheets with pairs of their bodies changed", broken::changed),
 ];
 
 impl Profile {

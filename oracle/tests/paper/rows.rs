@@ -30,17 +30,11 @@ pub fn check(sheet: &Sheet, names: &Names, row: u16, records: &mut Vec<Record>) 
             if *flags == 1 && needs_pin(sheet, names, *inner) {
                 say(18, 0);
             }
-            match sheet.rows[*inner as usize] {
-                Row::Ref { .. } => say(19, 0),
-                Row::Fn { .. } | Row::Void => say(20, 0),
-                _ => {}
-            }
+            reference(sheet, *inner, 19, 20).into_iter().for_each(|message| say(message, 0));
         }
-        Row::Ptr { inner, .. } => match sheet.rows[*inner as usize] {
-            Row::Ref { .. } => say(21, 0),
-            Row::Fn { .. } | Row::Void => say(22, 0),
-            _ => {}
-        },
+        Row::Ptr { inner, .. } => {
+            reference(sheet, *inner, 21, 22).into_iter().for_each(|message| say(message, 0));
+        }
         Row::SliceRef { inner, .. } => {
             let name = plain(sheet, *inner);
             let stands = name.is_some_and(|n| names.rust[n as usize] || names.alias[n as usize]);
@@ -55,6 +49,16 @@ pub fn check(sheet: &Sheet, names: &Names, row: u16, records: &mut Vec<Record>) 
         }
         Row::Fn { flags, args, .. } => function(sheet, row, *flags, args, records),
         Row::Str | Row::Void => {}
+    }
+}
+
+/// What is said of a reference or pointer to a reference, or to the rest that
+/// can't be pointed to.
+fn reference(sheet: &Sheet, inner: u16, to_reference: u8, other: u8) -> Option<u8> {
+    match sheet.rows[inner as usize] {
+        Row::Ref { .. } => Some(to_reference),
+        Row::Fn { .. } | Row::Void => Some(other),
+        _ => None,
     }
 }
 

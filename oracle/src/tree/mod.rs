@@ -1,97 +1,22 @@
 //! Builds the syntax tree of an accepted sheet. Each use of a row gets a tree
 //! of its own, as parsing would give; every node knows its place.
 
-use crate::sheet::{Form, Function, Head, Item, Row, Sheet};
+mod types;
+
+use self::types::{NOWHERE, ident, named, ty, vars};
+use crate::sheet::{Form, Function, Head, Item, Sheet};
 use crate::syntax::attrs::OtherAttrs;
 use crate::syntax::cfg::CfgExpr;
-use crate::syntax::*;
-use proc_macro2::{Ident, LIFETIMES, Span};
+use crate::syntax::{
+    Api, Derive, Enum, EnumRepr, ExternFn, ExternType, FnKind, Impl, Include, Lang, Lifetimes,
+    Pair, Receiver, Signature, Struct, Trait, Type, TypeAlias, Var, Variant,
+};
+use proc_macro2::{LIFETIMES, Span};
 use syn::{GenericParam, Generics, Lifetime, LifetimeParam, token};
 
 pub(crate) fn build(sheet: &Sheet) -> Vec<Api> {
     let items = sheet.items.iter().enumerate();
     items.map(|(number, item)| api(sheet, number, item)).collect()
-}
-
-const NOWHERE: Span = Span::call_site();
-
-fn ident(name: u16, span: Span) -> Ident {
-    Ident::numbered(name, span)
-}
-
-fn named(name: u16, span: Span, user: Span) -> NamedType {
-    let (rust, generics) = (ident(name, span), Lifetimes::default());
-    NamedType { rust, generics, user }
-}
-
-/// The tree of a row; `user` is for the whole type only, not its parts.
-fn ty(sheet: &Sheet, number: u16, user: Span) -> Type {
-    let span = Span::at(b'R', number as usize, 0);
-    let part = |row: u16| ty(sheet, row, NOWHERE);
-    let reference = |pinned, mutable, inner| {
-        let lifetime = None;
-        Box::new(Ref { span, user, pinned, lifetime, mutable, inner })
-    };
-    match &sheet.rows[number as usize] {
-        Row::Ident(name) => Type::Ident(named(*name, span, user)),
-        Row::Ty1 { kind, inner } => ty1(*kind, part(*inner), span, user),
-        Row::Ref { flags, inner } => {
-            Type::Ref(reference(flags & 2 != 0, flags & 1 != 0, part(*inner)))
-        }
-        Row::Ptr { flags, inner } => {
-            let (mutable, inner) = (*flags == 1, part(*inner));
-            Type::Ptr(Box::new(Ptr { span, user, mutable, inner }))
-        }
-        Row::Str => Type::Str(reference(false, false, Type::Ident(named(22, span, NOWHERE)))),
-        Row::SliceRef { flags, inner } => {
-            let (mutable, inner, lifetime) = (*flags == 1, part(*inner), None);
-            Type::SliceRef(Box::new(SliceRef { span, user, lifetime, mutable, inner }))
-        }
-        Row::Array { length, inner } => {
-            let (len, inner) = (*length as usize, part(*inner));
-            Type::Array(Box::new(Array { span, user, inner, len }))
-        }
-        Row::Fn { flags, ret, args } => {
-            let args = vars(sheet, args, b'G', number as usize);
-            Type::Fn(Box::new(Signature {
-                span,
-                user,
-                unsafety: (flags & 1 != 0).then_some(token::Unsafe(span)),
-                fn_token: token::Fn(span),
-                generics: Generics::default(),
-                kind: FnKind::Free,
-                args,
-                ret: ret.map(part),
-                throws: flags & 2 != 0,
-            }))
-        }
-        Row::Void => Type::Void(Void { span, user }),
-    }
-}
-
-fn ty1(kind: u16, inner: Type, span: Span, user: Span) -> Type {
-    // The names of Box, Vec, UniquePtr, SharedPtr, WeakPtr, CxxVector.
-    let name = ident([16, 20, 17, 18, 19, 21][kind as usize - 1], span);
-    let rangle = token::Gt { span };
-    let node = Box::new(Ty1 { span, user, name, inner, rangle });
-    match kind {
-        1 => Type::RustBox(node),
-        2 => Type::RustVec(node),
-        3 => Type::UniquePtr(node),
-        4 => Type::SharedPtr(node),
-        5 => Type::WeakPtr(node),
-        _ => Type::CxxVector(node),
-    }
-}
-
-/// Fields or arguments: their own places, then trees.
-fn vars(sheet: &Sheet, rows: &[u16], letter: u8, first: usize) -> Vec<Var> {
-    let var = |(index, &row): (usize, &u16)| Var {
-        span: Span::at(letter, first, index),
-        cfg: CfgExpr::Unconditional,
-        ty: ty(sheet, row, NOWHERE),
-    };
-    rows.iter().enumerate().map(var).collect()
 }
 
 fn api(sheet: &Sheet, number: usize, item: &Item) -> Api {
@@ -122,13 +47,7 @@ fn api(sheet: &Sheet, number: usize, item: &Item) -> Api {
         Item::RustFunction(function) => {
             Api::RustFunction(extern_fn(sheet, function, Lang::Rust, number, span))
         }
-        Item::TypeAlias { head } => Api::TypeAlias(TypeAlias {
-            span,
-            derives: derives(head, number),
-            attrs: OtherAttrs,
-            name: pair(head.name, span),
-            generics: generics(&head.lifetimes, number),
-        }),
+        Item::TypeAlias { head } => Api::TypeAlias(alias(head, number, span)),
         Item::Impl { row, flags, lifetimes } => Api::Impl(Impl {
             span,
             cfg: CfgExpr::Unconditional,
@@ -136,6 +55,16 @@ fn api(sheet: &Sheet, number: usize, item: &Item) -> Api {
             ty: ty(sheet, *row, NOWHERE),
             negative_token: (*flags == 1).then_some(token::Bang(span)),
         }),
+    }
+}
+
+fn alias(head: &Head, number: usize, span: Span) -> TypeAlias {
+    TypeAlias {
+        span,
+        derives: derives(head, number),
+        attrs: OtherAttrs,
+        name: pair(head.name, span),
+        generics: generics(&head.lifetimes, number),
     }
 }
 
