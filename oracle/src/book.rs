@@ -109,29 +109,35 @@ fn at_row(answer: &Answer, row: u16) -> Vec<u8> {
     here.map(|record| record.message).collect()
 }
 
+/// How the two part: a heading, and which of the parting shapes it is over.
+const GROUPS: [(&str, fn(&Shape) -> bool); 3] = [
+    ("the book forbids, the source lets stand", |shape| shape.book_forbids),
+    ("the source refuses by 8, 10, 13, 16, 23 or 24, the book does not forbid", |shape| {
+        shape.opaque_message()
+    }),
+    ("the source refuses by 5, 7, 9, 12, 15 or 17, the book does not forbid", |shape| {
+        !shape.book_forbids && !shape.opaque_message()
+    }),
+];
+
 /// The list of shapes where the two part.
 pub fn text() -> String {
-    let shapes = shapes();
-    let parting = || shapes.iter().filter(|(shape, _)| shape.parts());
-    let mut text = format!(
-        "shapes {} of them parting {}\n\nthe book forbids, the source lets stand\n",
-        shapes.values().map(Vec::len).sum::<usize>(),
-        parting().map(|(_, names)| names.len()).sum::<usize>(),
-    );
-    for (shape, names) in parting().filter(|(shape, _)| shape.book_forbids) {
-        line(&mut text, shape, names);
-    }
-    text += "\nthe source refuses as opaque, the book does not forbid\n";
-    for (shape, names) in parting().filter(|(shape, _)| shape.opaque_message()) {
-        line(&mut text, shape, names);
-    }
-    text += "\nthe source refuses otherwise, the book has no opaque target here\n";
-    for (shape, names) in parting() {
-        if !shape.book_forbids && !shape.opaque_message() {
+    let mut shapes: Vec<(Shape, Vec<u16>)> = shapes().into_iter().collect();
+    let mut text = format!("shapes {}\n", count(&shapes));
+    shapes.retain(|(shape, _)| shape.parts());
+    for (heading, group) in GROUPS {
+        let (in_group, rest) = shapes.into_iter().partition(|(shape, _)| group(shape));
+        shapes = rest;
+        writeln!(text, "\n{heading}: shapes {}", count(&in_group)).unwrap();
+        for (shape, names) in &in_group {
             line(&mut text, shape, names);
         }
     }
     text
+}
+
+fn count(shapes: &[(Shape, Vec<u16>)]) -> usize {
+    shapes.iter().map(|(_, names)| names.len()).sum()
 }
 
 fn line(text: &mut String, shape: &Shape, names: &[u16]) {

@@ -37,3 +37,16 @@ fn source_refuses_more() {
         }
     }
 }
+
+/// The figures of the list that `oracle --book` prints.
+#[test]
+fn counts() {
+    let count = |test: &dyn Fn(&Shape) -> bool| -> usize {
+        let parting = parting().into_iter().filter(|(shape, _)| test(shape));
+        parting.map(|(_, names)| names.len()).sum()
+    };
+    assert_eq!(shapes().values().map(Vec::len).sum::<usize>(), 4_928);
+    assert_eq!(count(&|shape| shape.book_forbids), 34);
+    assert_eq!(count(&|shape| !shape.book_forbids && shape.opaque_message()), 1_268);
+    assert_eq!(count(&|shape| !shape.book_forbids && !shape.opaque_message()), 862);
+}
