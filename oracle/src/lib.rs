@@ -3,6 +3,7 @@
 pub mod batch;
 pub mod book;
 pub mod coverage;
+pub mod equations;
 pub mod generate;
 pub mod judge;
 #[cfg(feature = "lines")]
