@@ -19,3 +19,5 @@ pub mod SetMembers
 pub mod Rule3Improper
 pub mod Accepted
 pub mod Due
+pub mod Sound
+pub mod SmallReport
