@@ -13,8 +13,9 @@ use Rattle.rules.specs.declared.Step.the-variants.{Next}
 use Rattle.rules.specs.Base.{if_then_else_}
 use Rattle.rules.specs.Format.{after, pairAt, offset, limited, function, itemKinds, itemOf, item, Accepted}
 use Rattle.rules.specs.View.{Ident, rows, kind, Struct, Enum, CxxType, RustType, CxxFunction, RustFunction, TypeAlias, Impl, items, itemPlace, itemKind, itemIs, isType, isFunction, itemName, past, entry, lifetimesPlace, lifetimeCount, lifetime, derivesPlace, deriveCount, derive, rest, fieldCount, field, enumRepr, enumVariants, enumDefaults, receiverPlace, form, selfType, returnPlace, return, argCount, arg, implRow}
-use Rattle.laws.proofs.Accepted.Steps.{no, or-is, after-is, Reads, _then_, RowOrNone, ListAt, HeadAt, ReceiverAt, limited-reads, orNone-reads, list-reads, head-reads, repr-reads, variants-reads, receiver-reads}
+use Rattle.laws.proofs.Accepted.Steps.{after-is, Reads, _then_, RowOrNone, ListAt, HeadAt, ReceiverAt, limited-reads, orNone-reads, list-reads, head-reads, repr-reads, variants-reads, receiver-reads}
 use Rattle.laws.proofs.Accepted.Sheet.{Bodies, bodies-of}
+use Rattle.laws.proofs.Tests.{never, or-is}
 
 module _ (s : List ℕ) (i : ℕ) where
   pub record LifetimesOf : Type 0 where
@@ -147,15 +148,15 @@ module _ (s : List ℕ) (acc : Accepted s) (i : ℕ) (l : i < items s) where
 
   head-is : (k : ℕ) → k < 9 → typeKind k ≡ true → itemKind s i ≡ k → HeadAt s from
   unfolding itemOf itemKinds
-  head-is zero l t e = no t
+  head-is zero l t e = never t
   head-is (suc zero) l t e = by-kind 1 (head-reads s then list-reads s 64 7 (rows s)) refl e .1 .0
   head-is (suc (suc zero)) l t e = by-kind 2 (head-reads s then repr-reads s (rows s) then limited-reads s 6 2 then variants-reads s) refl e .1 .1 .1 .0
   head-is (suc (suc (suc zero))) l t e = by-kind 3 (head-reads s then limited-reads s 6 4) refl e .1 .0
   head-is (suc (suc (suc (suc zero)))) l t e = by-kind 4 (head-reads s then limited-reads s 6 4) refl e .1 .0
-  head-is (suc (suc (suc (suc (suc zero))))) l t e = no t
-  head-is (suc (suc (suc (suc (suc (suc zero)))))) l t e = no t
+  head-is (suc (suc (suc (suc (suc zero))))) l t e = never t
+  head-is (suc (suc (suc (suc (suc (suc zero)))))) l t e = never t
   head-is (suc (suc (suc (suc (suc (suc (suc zero))))))) l t e = by-kind 7 (head-reads s) refl e .0
-  head-is (suc (suc (suc (suc (suc (suc (suc (suc zero)))))))) l t e = no t
+  head-is (suc (suc (suc (suc (suc (suc (suc (suc zero)))))))) l t e = never t
   head-is (suc (suc (suc (suc (suc (suc (suc (suc (suc k))))))))) l t e = absurd (omega arith)
 
   lifetimes-place : (b : Bool) → isType s i ≡ b → lifetimesPlace s i ≡ (if b then itemPlace s i + 4 else itemPlace s i + 6)

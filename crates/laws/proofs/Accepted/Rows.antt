@@ -12,8 +12,9 @@ use Rattle.rules.specs.declared.Step.the-variants.{Next}
 use Rattle.rules.specs.Base.{if_then_else_}
 use Rattle.rules.specs.Format.{after, pairAt, offset, limited, flagged, signature, rowKinds, bodyOf, row, Accepted}
 use Rattle.rules.specs.View.{Ident, Ref, Ptr, SliceRef, Array, Fn, rows, kind, rowName, rowFlags, inner, fnReturn, fnArgCount, fnArg, past}
-use Rattle.laws.proofs.Accepted.Steps.{no, after-is, Reads, _then_, RowOrNone, ListAt, limited-reads, orNone-reads, list-reads}
+use Rattle.laws.proofs.Accepted.Steps.{after-is, Reads, _then_, RowOrNone, ListAt, limited-reads, orNone-reads, list-reads}
 use Rattle.laws.proofs.Accepted.Sheet.{Bodies, bodies-of}
+use Rattle.laws.proofs.Tests.{never}
 
 -- kinds 1 to 8, 10 and 11: one row stands inside
 abbrev pub hasInner : (kind : ℕ) → Bool
@@ -102,7 +103,7 @@ module _ (s : List ℕ) (acc : Accepted s) (r : ℕ) (l : r < rows s) where
 
   falls : (k : ℕ) → hasInner k ≡ true → kind s r ≡ k → inner s r < r
   unfolding bodyOf rowKinds
-  falls zero t = no t
+  falls zero t = never t
   falls (suc zero) t = near 1 refl (omega arith)
   falls (suc (suc zero)) t = near 2 refl (omega arith)
   falls (suc (suc (suc zero))) t = near 3 refl (omega arith)
@@ -111,10 +112,10 @@ module _ (s : List ℕ) (acc : Accepted s) (r : ℕ) (l : r < rows s) where
   falls (suc (suc (suc (suc (suc (suc zero)))))) t = near 6 refl (omega arith)
   falls (suc (suc (suc (suc (suc (suc (suc zero))))))) t = far 7 4 refl (omega arith)
   falls (suc (suc (suc (suc (suc (suc (suc (suc zero)))))))) t = far 8 2 refl (omega arith)
-  falls (suc (suc (suc (suc (suc (suc (suc (suc (suc zero))))))))) t = no t
+  falls (suc (suc (suc (suc (suc (suc (suc (suc (suc zero))))))))) t = never t
   falls (suc (suc (suc (suc (suc (suc (suc (suc (suc (suc zero)))))))))) t = far 10 2 refl (omega arith)
   falls (suc (suc (suc (suc (suc (suc (suc (suc (suc (suc (suc zero))))))))))) t = far 11 65536 refl (omega arith)
-  falls (suc (suc (suc (suc (suc (suc (suc (suc (suc (suc (suc (suc k)))))))))))) t = no t
+  falls (suc (suc (suc (suc (suc (suc (suc (suc (suc (suc (suc (suc k)))))))))))) t = never t
 
   fn-is : kind s r ≡ Fn → SignatureAt s r from × (ending ≡ past s (from + 4))
   unfolding bodyOf rowKinds
