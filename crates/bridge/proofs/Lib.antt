@@ -2,5 +2,6 @@ pub mod Buffer
 pub mod Again
 pub mod Relend
 pub mod Stores
+pub mod ReasonCounts
 pub mod Records
 pub mod Turn

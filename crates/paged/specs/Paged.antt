@@ -3,7 +3,7 @@
 use mathlib.Core.Path.{_≡_}
 use Prim.Native.Nat.{ℕ}
 use mathlib.Core.List.{List}
-use lib.ListN.{length, replicate}
+use lib.ListN.{replicate}
 use Rattle.rules.specs.declared.Place.the-variants.{I}
 use Rattle.rules.specs.declared.Diagnostic.{Diagnostic}
 use Rattle.rules.specs.declared.Answer.{Answer}
@@ -20,8 +20,6 @@ pub record Packed (a : Answer) (l : List Diagnostic) (r : Page) : Type 0 where
   pub answer : r .answer ≡ a
   pub list : r .list ≡ l
 
-pub record Filled (s scratch₀ : List ℕ) (d : Diagnostic) (r : Page) (scratch′ : List ℕ) : Type 0 where
+-- the call, on a list of the record d
+pub record Paged (s scratch₀ : List ℕ) (d : Diagnostic) (r : Page) (scratch′ : List ℕ) : Type 0 where
   pub called : Called s scratch₀ (replicate capacity d) (r .answer) scratch′ (r .list)
-
-pub record Paged (s scratch₀ : List ℕ) (r : Page) (scratch′ : List ℕ) : Type 0 where
-  pub called : Called s scratch₀ (replicate capacity blank) (r .answer) scratch′ (r .list)
