@@ -1,3 +1,4 @@
+pub mod Locals
 pub mod Buffer
 pub mod Again
 pub mod Relend

@@ -1,13 +1,12 @@
 -- A law of the rules alone: no name of an accepted sheet has 65,536 reasons. There is at most one reason for each field, argument, return and collected row, so
 -- at most 255 * 64 + 1,024 in all.
 -- Assumes nothing.
-use mathlib.Core.Path.{_≡_, refl, sym, ap, _∙_}
+use mathlib.Core.Path.{_≡_, refl}
 use Prim.Native.Nat.{ℕ, zero, suc, _+_, _*_, _≤_, _<_}
 use mathlib.Core.List.{List, [], _∷_, _++_}
 use mathlib.Core.Bool.{Bool, true, false, not, _&&_, _||_}
 use native.Mathlib.Omega.{arith}
 use native.Mathlib.Decide.{decLt}
-use lib.Dec.{eqb}
 use lib.ListN.{length, getD, set, replicate, length-append}
 use lib.Seq.{getD-set-same, getD-set-other, set-out}
 use Rattle.rules.specs.Base.{if_then_else_, over}
@@ -17,7 +16,6 @@ use Rattle.rules.specs.View.{Struct, items, is, Ident, RustBox, RustVec, SliceR
 use Rattle.rules.specs.Trivial.{insist, reasonsOfItem, reasonsOfRow, reasonNames, tally, reasonsOf}
 use Rattle.rules.specs.Types.{typesOf}
 use Rattle.laws.proofs.Counts.{Eq?, same, other, eq?, eqb-true}
-use Rattle.laws.proofs.Tests.{both}
 use Rattle.laws.proofs.Lists.{zeros-get}
 use Rattle.laws.proofs.Collect.{all-few}
 use Rattle.laws.proofs.Accepted.Sheet.{sheet-of}

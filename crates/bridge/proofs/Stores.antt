@@ -1,6 +1,6 @@
 -- Runs of stores into a list (`sets`), the list with records stored (`storedAt`), and the codes of one window.
 -- Assumes nothing.
-use mathlib.Core.Path.{_≡_, refl, sym, _∙_, ap, subst}
+use mathlib.Core.Path.{_≡_, refl, sym, _∙_, ap}
 use Prim.Native.Nat.{ℕ, zero, suc, _<_, _≤_, _^_, _*_, _+_, _-_}
 use native.Mathlib.Omega.{arith}
 use mathlib.Core.Bool.{Bool, true, false}

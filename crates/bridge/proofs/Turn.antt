@@ -4,7 +4,7 @@ use mathlib.Core.Path.{_≡_, refl, sym, _∙_, ap, subst}
 use Prim.Native.Nat.{ℕ, _<_, _≤_, _^_, _+_, _-_}
 use native.Mathlib.Omega.{arith}
 use mathlib.Core.Bool.{Bool, true, false, not}
-use mathlib.Core.List.{List, map}
+use mathlib.Core.List.{List}
 use mathlib.Core.WellFounded.{WellFounded, InvImage·wf}
 use lib.ListN.{length, take, drop}
 use lib.Seq.{take-add, take-all, length-take-le}
@@ -13,7 +13,6 @@ use lib.Dec.{T, ltb, eqb, eqb→eq, T-not}
 use borrow.Author.Tests.{eq-eqb}
 use Rattle.rules.specs.declared.Diagnostic.{Diagnostic}
 use Rattle.rules.specs.declared.Answer.{Answer}
-use Rattle.rules.specs.declared.Step.the-variants.{Next}
 use Rattle.rules.specs.Answer as rule
 use Rattle.rules.specs.Report.{report}
 use Rattle.rules.specs.Rule3.{Rule3, Tiers3}

@@ -1,15 +1,14 @@
 -- All that is ever used of what one run comes to (specs/Run.antt): the answer's total is the number of codes; clearing the scratch again changes nothing; and
 -- answer, scratch and records are those of the rules' own call. Each by the two cases of what the reader says.
 -- Assumes nothing.
-use mathlib.Core.Path.{_≡_, refl, sym, _∙_, ap, subst}
-use Prim.Native.Nat.{ℕ, zero, suc}
+use mathlib.Core.Path.{_≡_, refl, sym, _∙_, ap}
+use Prim.Native.Nat.{ℕ, suc}
 use mathlib.Core.List.{List, [], _∷_, _++_, map}
 use lib.ListN.{length, drop, replicate, length-replicate}
 use lib.Seq.{sets, drop-at}
 use Rattle.rules.specs.declared.Step.{Step}
 use Rattle.rules.specs.declared.Step.the-variants.{Next, Refused}
 use Rattle.rules.specs.declared.Diagnostic.{Diagnostic}
-use Rattle.rules.specs.declared.Answer.{Answer}
 use Rattle.rules.specs.Types.{typesOf}
 use Rattle.rules.specs.Order.{walkOf}
 use Rattle.rules.specs.Report.{report, reportOf}
