@@ -62,11 +62,11 @@ module _ {M : Type 1} {𝓤 : URA M} {H : Heap 𝓤} {A : Atoms 𝓤} {K : Type 
         → Step K W (Without 𝓤 H A n Γ) (frees E g) Γ (frees ((τ, b) ∷ E) g)
     frees-at n room d = step (λ s. record {
       prf =
-        via 𝓤 (sep 𝓤 (mean 𝓤 H A (nth 𝓤 H A n Γ)) left) (pull 𝓤 H A n Γ)
-        (via 𝓤 (sep 𝓤 (H .room τ b zero) left) (monoL 𝓤 left room)
-        (via 𝓤 (sep 𝓤 (H .room τ b zero) (sep 𝓤 (H .dies τ b) (⋆ 𝓤 H A (Without 𝓤 H A n Γ)))) (monoR 𝓤 (H .room τ b zero) dies)
-        (via 𝓤 (sep 𝓤 (sep 𝓤 (H .room τ b zero) (H .dies τ b)) (⋆ 𝓤 H A (Without 𝓤 H A n Γ)))
-        (assoc′ 𝓤 (H .room τ b zero) (H .dies τ b) (⋆ 𝓤 H A (Without 𝓤 H A n Γ))) (monoR 𝓤 (sep 𝓤 (H .room τ b zero) (H .dies τ b)) (s .prf)))));
+          via 𝓤 (sep 𝓤 (mean 𝓤 H A (nth 𝓤 H A n Γ)) left) (pull 𝓤 H A n Γ)
+          (via 𝓤 (sep 𝓤 (H .room τ b zero) left) (monoL 𝓤 left room)
+          (via 𝓤 (sep 𝓤 (H .room τ b zero) (sep 𝓤 (H .dies τ b) (⋆ 𝓤 H A (Without 𝓤 H A n Γ)))) (monoR 𝓤 (H .room τ b zero) dies)
+          (via 𝓤 (sep 𝓤 (sep 𝓤 (H .room τ b zero) (H .dies τ b)) (⋆ 𝓤 H A (Without 𝓤 H A n Γ)))
+          (assoc′ 𝓤 (H .room τ b zero) (H .dies τ b) (⋆ 𝓤 H A (Without 𝓤 H A n Γ))) (monoR 𝓤 (sep 𝓤 (H .room τ b zero) (H .dies τ b)) (s .prf)))));
     })
       where
         left : SProp 𝓤

@@ -12,7 +12,8 @@ use lib.Seq.{getD-set-same, getD-set-other, set-out}
 use Rattle.rules.specs.Base.{if_then_else_, over}
 use Rattle.rules.specs.Names.{Words, _∋_}
 use Rattle.rules.specs.Format.{Accepted}
-use Rattle.rules.specs.View.{Struct, items, is, Ident, RustBox, RustVec, SliceRef, rowName, inner, itemIs, itemKind, isFunction, fieldCount, field, argCount, arg, hasReturn, return}
+use Rattle.rules.specs.View.{Struct, items, is, Ident, RustBox, RustVec, SliceRef, rowName, inner, itemIs, itemKind, isFunction, fieldCount, field}
+use Rattle.rules.specs.View.{argCount, arg, hasReturn, return}
 use Rattle.rules.specs.Trivial.{insist, reasonsOfItem, reasonsOfRow, reasonNames, tally, reasonsOf}
 use Rattle.rules.specs.Types.{typesOf}
 use Rattle.laws.proofs.Counts.{Eq?, same, other, eq?, eqb-true}
@@ -37,12 +38,14 @@ length-over (suc n) m f h = omega (arith, length-append (over n f) (f n), length
 module _ (s : List ℕ) (structs enums cxx : Words) where
   insist-few : (r : ℕ) → length (insist s structs enums cxx r) ≤ 1
   unfolding insist
-  insist-few r = length-if (is s Ident r && cxx ∋ rowName s r && not (structs ∋ rowName s r) && not (enums ∋ rowName s r)) (rowName s r ∷ []) [] 1 (λ _. omega arith) (λ _. omega arith)
+  insist-few r = length-if (is s Ident r && cxx ∋ rowName s r && not (structs ∋ rowName s r) && not (enums ∋ rowName s r)) (rowName s r ∷ []) [] 1
+      (λ _. omega arith) (λ _. omega arith)
 
   -- of a collected row
   row-few : (r : ℕ) → length (reasonsOfRow s structs enums cxx r) ≤ 1
   unfolding reasonsOfRow
-  row-few r = length-if (is s RustBox r || is s RustVec r || is s SliceRef r) (insist s structs enums cxx (inner s r)) [] 1 (λ _. insist-few (inner s r)) (λ _. omega arith)
+  row-few r = length-if (is s RustBox r || is s RustVec r || is s SliceRef r) (insist s structs enums cxx (inner s r)) [] 1 (λ _. insist-few (inner s r))
+      (λ _. omega arith)
 
   module _ (acc : Accepted s) (i : ℕ) (l : i < items s) where
     fields : List ℕ
