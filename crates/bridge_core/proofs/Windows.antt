@@ -39,11 +39,11 @@ module _ (total len from e d : ℕ) (is-e : e ≡ least2 total len) (is-d : d �
 
 module _ (total len from to : ℕ) where
   -- `from` itself: all that has a place lies below the end of this window; any other: a window further, and there is more
-  pub record Next : Type 0 where
+  pub record Onward : Type 0 where
     pub last : to ≡ from → least2 total len ≤ from + size
     pub more : (to ≡ from → ⊥) → (to ≡ from + size) × (from + size < least2 total len)
 
-  next-by : (t : Bool) → ltb size (least2 total len - from) ≡ t → to ≡ pick t (from + size) from → Next
+  next-by : (t : Bool) → ltb size (least2 total len - from) ≡ t → to ≡ pick t (from + size) from → Onward
   next-by true e f =
       let h : size < least2 total len - from = ltb-true size (least2 total len - from) e in
       record { last = λ g. absurd (omega arith); more = λ g. (f, omega arith) }
@@ -51,6 +51,6 @@ module _ (total len from to : ℕ) where
       let h : least2 total len - from ≤ size = ltb-false size (least2 total len - from) e in
       record { last = λ g. omega arith; more = λ g. absurd (g f) }
 
-  pub next-is : to ≡ nextOf total len from → Next
+  pub next-is : to ≡ nextOf total len from → Onward
   unfolding nextOf
   next-is f = next-by (ltb size (least2 total len - from)) refl f
