@@ -71,3 +71,14 @@ fn at_most_512_records() {
     let records = full.lines().filter(|line| line.starts_with("record ")).count();
     assert_eq!(total, Some(records.to_string().as_str()));
 }
+
+/// The oracle against itself agrees; against a program that prints nothing it
+/// does not.
+#[test]
+fn against_a_program() {
+    let sheets = [&proved::worked()[..], &[0; 32_769], &[0; 3]];
+    let same = oracle::against::compare(env!("CARGO_BIN_EXE_oracle"), &sheets).expect("a run");
+    assert_eq!((same.compared, same.differing.len()), (3, 0));
+    let other = oracle::against::compare("true", &sheets).expect("a run");
+    assert_eq!((other.compared, other.differing.len()), (3, 3));
+}
