@@ -135,12 +135,16 @@ module _ (s : List ℕ) (r : ℕ) where
       by (yes q) = rw q (getD-set-same keys r k 0 lk ∙ sym e)
       by (no q) = getD-set-other keys r i k 0 q ∙ h i (omega arith)
 
-  marked-more : (seen : List ℕ) {k : ℕ} → ((i : ℕ) → i < r → getD seen (rowKey s 0 i % 16384) 0 ≡ 1) → rowKey s 0 r ≡ k → k % 16384 < length seen → (i : ℕ) → i < r + 1 → getD (set seen (k % 16384) 1) (rowKey s 0 i % 16384) 0 ≡ 1
+  marked-more :
+      (seen : List ℕ) {k : ℕ} → ((i : ℕ) → i < r → getD seen (rowKey s 0 i % 16384) 0 ≡ 1) → rowKey s 0 r ≡ k → k % 16384 < length seen
+      → (i : ℕ) → i < r + 1 → getD (set seen (k % 16384) 1) (rowKey s 0 i % 16384) 0 ≡ 1
   marked-more seen {k} h e ls i l = by (ℕ-discrete (rowKey s 0 i % 16384) (k % 16384))
     where
       by : Dec (rowKey s 0 i % 16384 ≡ k % 16384) → getD (set seen (k % 16384) 1) (rowKey s 0 i % 16384) 0 ≡ 1
       by (yes q) = rw q (getD-set-same seen (k % 16384) 1 0 ls)
-      by (no q) = getD-set-other seen (k % 16384) (rowKey s 0 i % 16384) 1 0 q ∙ h i (let z : (i ≡ r → ⊥) = λ (w : i ≡ r). q (rw w (ap (λ (m : ℕ). m % 16384) e)) in omega arith)
+      by (no q) =
+          let z : (i ≡ r → ⊥) = λ (w : i ≡ r). q (rw w (ap (λ (m : ℕ). m % 16384) e)) in
+          getD-set-other seen (k % 16384) (rowKey s 0 i % 16384) 1 0 q ∙ h i (omega arith)
 
 -- `mix` does not wrap
 pub low-half : (k : ℕ) → k % 4294967296 < 4294967296
@@ -213,17 +217,20 @@ module _ (s keys more : List ℕ) (r k m next : ℕ) (sought : Sought s keys mor
   fresh-unheld h z = fresh-keys s r next 0 r (sought .own) (λ i l q. h z i l (sought .others i l ∙ q))
 
 -- a turn of `rows`: row r stands at here and ends at p, and has the keys k and m
-module _ (s keys more seen : List ℕ) (r k m here p : ℕ) (inv : offset s r ≡ here → Kept s keys more seen r) (e : offset s r ≡ here) (ek : k ≡ key s (p - here) here 0) (em : m ≡ key s (p - here) here 11400714819323198485) where
-  pub sought : r ≤ 1024 → Sought s keys more r k m p
-  sought l = record { few = l; own = rw e ek; own2 = rw e em; others = inv e .held; others2 = inv e .held2 }
+module _
+    (s keys more seen : List ℕ) (r k m here p : ℕ) (inv : offset s r ≡ here → Kept s keys more seen r) (e : offset s r ≡ here)
+    (ek : k ≡ key s (p - here) here 0) (em : m ≡ key s (p - here) here 11400714819323198485)
+  where
+    pub sought : r ≤ 1024 → Sought s keys more r k m p
+    sought l = record { few = l; own = rw e ek; own2 = rw e em; others = inv e .held; others2 = inv e .held2 }
 
-  pub kept-again : r < length keys → r < length more → length seen ≡ 16384 → offset s (r + 1) ≡ p → Kept s (set keys r k) (set more r m) (set seen (k % 16384) 1) (r + 1)
-  unfolding rowKey
-  kept-again lk lm ls ep =
-      let own : rowKey s 0 r ≡ k = rw (e, ep) (sym ek) in
-      let own2 : rowKey s 11400714819323198485 r ≡ m = rw (e, ep) (sym em) in
-      record {
-        held = held-more s r keys 0 (inv e .held) own lk;
-        held2 = held-more s r more 11400714819323198485 (inv e .held2) own2 lm;
-        marked = marked-more s r seen (inv e .marked) own (omega arith);
-      }
+    pub kept-again : r < length keys → r < length more → length seen ≡ 16384 → offset s (r + 1) ≡ p → Kept s (set keys r k) (set more r m) (set seen (k % 16384) 1) (r + 1)
+    unfolding rowKey
+    kept-again lk lm ls ep =
+        let own : rowKey s 0 r ≡ k = rw (e, ep) (sym ek) in
+        let own2 : rowKey s 11400714819323198485 r ≡ m = rw (e, ep) (sym em) in
+        record {
+          held = held-more s r keys 0 (inv e .held) own lk;
+          held2 = held-more s r more 11400714819323198485 (inv e .held2) own2 lm;
+          marked = marked-more s r seen (inv e .marked) own (omega arith);
+        }

@@ -1,4 +1,5 @@
--- `keys_of` mixes a row's pairs into two keys. The invariant: the pairs that are left, mixed into the keys so far, give the whole keys. The measure is the bytes left.
+-- `keys_of` mixes a row's pairs into two keys. The invariant: the pairs that are left, mixed into the keys so far, give the whole keys.
+-- The measure is how many bytes are left.
 -- Assumes nothing.
 use borrow.Author.Needs.{needs}
 use Prim.Native.Nat.{_-_}
@@ -10,7 +11,8 @@ use Rattle.sheet.proofs.fresh_rows.keys_of.Statement.{statement}
 use Rattle.sheet.proofs.fresh_rows.keys_of.Tie as tie
 
 abbrev Inv-loop : tie.InvT-loop
-Inv-loop s a end left₀ i₀ k₀ m₀ left i k m = (key s (end - a) a 0 ≡ key s left i k) × (key s (end - a) a 11400714819323198485 ≡ key s left i m) × (left ≡ end - i)
+Inv-loop s a end left₀ i₀ k₀ m₀ left i k m =
+    (key s (end - a) a 0 ≡ key s left i k) × (key s (end - a) a 11400714819323198485 ≡ key s left i m) × (left ≡ end - i)
 
 abbrev μ-loop : tie.MeasureT-loop
 μ-loop s a end left₀ i₀ k₀ m₀ left i k m = left

@@ -4,6 +4,7 @@
 use borrow.Author.Needs.{needs}
 use Prim.Native.Nat.{ℕ, _-_, _≤_}
 use mathlib.Core.Path.{_≡_, refl}
+use mathlib.Core.List.{List}
 use native.Mathlib.Nat.{sub-zero}
 use native.Mathlib.Omega.{arith}
 use lib.ListN.{length, length-replicate, length-set}
@@ -14,23 +15,30 @@ use Rattle.sheet.proofs.FreshLaws.{placed-here, row-refused, row-new, r
 use Rattle.sheet.proofs.row_steps.all_rows.Statement.{statement}
 use Rattle.sheet.proofs.row_steps.all_rows.Tie as tie
 
+record Reading (s : List ℕ) (n at : ℕ) (keys more seen : List ℕ) (here r : ℕ) : Type 0 where
+  left : each (rowAt s) n 0 at ≡ each (rowAt s) (n - r) r here
+  within : r ≤ n
+  kept : offset s r ≡ here → Kept s keys more seen r
+  keys-long : length keys ≡ 1024
+  more-long : length more ≡ 1024
+  seen-long : length seen ≡ 16384
+
 abbrev Inv-loop : tie.InvT-loop
-Inv-loop s n at keys₀ more₀ seen₀ here₀ r₀ keys more seen here r =
-    (each (rowAt s) n 0 at ≡ each (rowAt s) (n - r) r here) × (r ≤ n) × (offset s r ≡ here → Kept s keys more seen r) × (length keys ≡ 1024) × (length more ≡ 1024)
-    × (length seen ≡ 16384)
+Inv-loop s n at keys₀ more₀ seen₀ here₀ r₀ keys more seen here r = Reading s n at keys more seen here r
 
 abbrev μ-loop : tie.MeasureT-loop
 μ-loop s n at keys₀ more₀ seen₀ here₀ r₀ keys more seen here r = n - r
 
 loop-holds : tie.Need-loop-holds Inv-loop μ-loop
-loop-holds c = (
-  rw sub-zero,
-  search needs,
-  λ e. record { held = λ i l. absurd (omega arith); held2 = λ i l. absurd (omega arith); marked = λ i l. absurd (omega arith) },
-  length-replicate {A = ℕ} 1024 0,
-  length-replicate {A = ℕ} 1024 0,
-  length-replicate {A = ℕ} 16384 0,
-)
+loop-holds c =
+    record {
+      left = rw sub-zero;
+      within = search needs;
+      kept = λ e. record { held = λ i l. absurd (omega arith); held2 = λ i l. absurd (omega arith); marked = λ i l. absurd (omega arith) };
+      keys-long = length-replicate {A = ℕ} 1024 0;
+      more-long = length-replicate {A = ℕ} 1024 0;
+      seen-long = length-replicate {A = ℕ} 16384 0;
+    }
 
 placed-requires : tie.Need-placed-requires Inv-loop μ-loop
 placed-requires c κs = search needs
@@ -42,17 +50,19 @@ enum-told : tie.Need-enum-told Inv-loop μ-loop
 enum-told c = search needs
 
 returns : tie.Need-returns Inv-loop μ-loop
-returns c = each-stop _ _ _ _ _ (c .before .before .before .before .loop .inv .0) (c .before .before .before .loop-test .taken) (row-refused _ _ _ (c .before .before .placed .ensures) (c .enum-told .given .1)) (c .enum-told .given .1)
+returns c = search (each-stop, row-refused)
 
 keys-of-requires : tie.Need-keys-of-requires Inv-loop μ-loop
 keys-of-requires c κs = search needs
 
 fresh-requires : tie.Need-fresh-requires Inv-loop μ-loop
 fresh-requires c κs =
-    let at = (c .before .before .before .before .before .before .before .before .before .loop) in
-    let e = placed-here _ _ _ (c .before .before .before .before .before .before .before .placed .ensures) (c .before .before .before .before .before .step .given .1) in
-    let keys = (c .before .before .before .keys-of .ensures) in
-    (sought _ _ _ (at .seen) _ _ _ _ _ (at .inv .2) e (keys .low) (keys .high) (omega arith), at .inv .2 e)
+    let named = c .before .before .before in
+    let read = named .before .before in
+    let turn = read .before .before .before .before .loop in
+    let here = placed-here _ _ _ (read .before .before .placed .ensures) (read .step .given .1) in
+    let keys = named .keys-of .ensures in
+    (sought _ _ _ (turn .seen) _ _ _ _ _ (turn .inv .kept) here (keys .low) (keys .high) (omega arith), turn .inv .kept here)
 
 cast-keys : tie.Need-cast-keys Inv-loop μ-loop
 cast-keys c = search needs
@@ -77,7 +87,10 @@ array-write-seen c = search needs
 
 returns-2 : tie.Need-returns-2 Inv-loop μ-loop
 returns-2 c =
-    each-stop _ _ _ _ _ (c .before .before .before .before .before .before .before .before .before .before .before .loop .inv .0) (c .before .before .before .before .before .before .before .before .before .before .loop-test .taken) (row-seen _ _ _ (c .before .before .before .before .before .before .before .before .before .placed .ensures) (c .before .before .before .before .before .before .before .step .given .1) (c .before .fresh .ensures) (c .if1 .left)) refl
+    let read = c .before .before .before .before .before .before .before in
+    let test = read .before .before .before in
+    let seen = row-seen _ _ _ (read .before .before .placed .ensures) (read .step .given .1) (c .before .fresh .ensures) (c .if1 .left) in
+    each-stop _ _ _ _ _ (test .before .loop .inv .left) (test .loop-test .taken) seen refl
 
 add-r : tie.Need-add-r Inv-loop μ-loop
 add-r c = search needs
@@ -87,18 +100,19 @@ loop-less c = search needs
 
 loop-again : tie.Need-loop-again Inv-loop μ-loop
 loop-again c =
-    let at = (c .before .before .before .before .before .before .before .before .before .before .before .loop) in
-    let placed = (c .before .before .before .before .before .before .before .before .before .placed .ensures) in
-    let next = (c .before .before .before .before .before .before .before .step .given .1) in
-    let e = placed-here _ _ _ placed next in
-    let keys = (c .before .before .before .before .before .keys-of .ensures) in (
-      each-go _ _ _ _ _ (at .inv .0) (c .before .before .before .before .before .before .before .before .before .before .loop-test .taken) (row-new _ _ _ placed next (c .before .fresh .ensures) (c .if1 .taken)) next,
-      search needs,
-      kept-again _ _ _ _ _ _ _ _ _ (at .inv .2) e (keys .low) (keys .high) (omega arith) (omega arith) (at .inv .5),
-      simp length-set (at .inv .3),
-      simp length-set (at .inv .4),
-      simp length-set (at .inv .5),
-    )
+    let named = c .before .before .before .before .before in
+    let read = named .before .before in
+    let turn = read .before .before .before .before .loop in
+    let here = placed-here _ _ _ (read .before .before .placed .ensures) (read .step .given .1) in
+    let keys = named .keys-of .ensures in
+    record {
+      left = search (each-go, row-new);
+      within = search needs;
+      kept = kept-again _ _ _ _ _ _ _ _ _ (turn .inv .kept) here (keys .low) (keys .high) (omega arith) (omega arith) (turn .inv .seen-long);
+      keys-long = simp length-set (turn .inv .keys-long);
+      more-long = simp length-set (turn .inv .more-long);
+      seen-long = simp length-set (turn .inv .seen-long);
+    }
 
 returns-3 : tie.Need-returns-3 Inv-loop μ-loop
 returns-3 c = search each-end

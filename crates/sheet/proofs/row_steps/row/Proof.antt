@@ -27,7 +27,9 @@ body-requires c κs = search needs
 
 returns-2 : tie.Need-returns-2
 unfolding row
-returns-2 c = go _ (c .before .before .before .before .before .limited .ensures) (c .before .before .before .first .given .1) (rw (c .before .pair-at .ensures) at (c .body .ensures))
+returns-2 c =
+    let read = c .before .before .before in
+    go _ (read .before .before .limited .ensures) (read .first .given .1) (rw (c .before .pair-at .ensures) at (c .body .ensures))
 
 pub row-spec : {M : Type 1} → statement M
 row-spec =
