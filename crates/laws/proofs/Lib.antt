@@ -22,4 +22,5 @@ pub mod SetMembers
 pub mod Rule3Improper
 pub mod Accepted
 pub mod Collect
+pub mod Bounds
 pub mod Due
