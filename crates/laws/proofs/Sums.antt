@@ -82,6 +82,17 @@ unfolding sumTo
 sum-const zero c = omega arith
 sum-const (suc k) c = omega (arith, sum-const k c)
 
+-- a sum from its first number on, and in two parts
+pub sum-first : (n : ℕ) (a : ℕ → ℕ) → sumTo (suc n) a ≡ a 0 + sumTo n (λ k. a (suc k))
+unfolding sumTo
+sum-first zero a = omega arith
+sum-first (suc n) a = omega (arith, sum-first n a)
+
+pub sum-split : (m n : ℕ) (a : ℕ → ℕ) → sumTo (m + n) a ≡ sumTo m a + sumTo n (λ k. a (m + k))
+unfolding sumTo
+sum-split m zero a = let e : m + 0 ≡ m = omega arith in rw e (omega arith)
+sum-split m (suc n) a = let e : m + suc n ≡ suc (m + n) = omega arith in rw e (omega (arith, sum-split m n a))
+
 -- what is 0 from m on adds nothing
 pub sum-cut : (m n : ℕ) (a : ℕ → ℕ) → m ≤ n → ((x : ℕ) → m ≤ x → a x ≡ 0) → sumTo n a ≡ sumTo m a
 unfolding sumTo

@@ -9,7 +9,7 @@ use lib.ListN.{length, getD, length-append}
 use Rattle.rules.specs.declared.Diagnostic.{Diagnostic}
 use Rattle.rules.specs.Base.{if_then_else_, over}
 use Rattle.rules.specs.Diagnostics.{when, bit}
-use Rattle.laws.proofs.Sums.{sumTo, sum-le, sum-const, weight}
+use Rattle.laws.proofs.Sums.{sumTo, sum-first, sum-le, sum-const, weight}
 
 pub when-few : (b : Bool) (ds : List Diagnostic) → length (when b ds) ≤ length ds
 unfolding when
@@ -53,9 +53,4 @@ module _ {A : Type 0} (f : ℕ → List A) where
 pub entries-sum : (h : ℕ → ℕ) (l : List ℕ) → sumTo (length l) (λ k. h (getD l k 0)) ≡ weight h l
 unfolding sumTo weight
 entries-sum h [] = refl
-entries-sum h (x ∷ l) = first (length l) (λ k. h (getD (x ∷ l) k 0)) ∙ ap (λ n. h x + n) (entries-sum h l)
-  where
-    -- a sum, from its first number on
-    first : (n : ℕ) (a : ℕ → ℕ) → sumTo (suc n) a ≡ a 0 + sumTo n (λ k. a (suc k))
-    first zero a = omega arith
-    first (suc n) a = omega (arith, first n a)
+entries-sum h (x ∷ l) = sum-first (length l) (λ k. h (getD (x ∷ l) k 0)) ∙ ap (λ n. h x + n) (entries-sum h l)
