@@ -1,5 +1,6 @@
 //! The original Rust of cxx-build 1.0.205 as the judge of a port.
 
+pub mod against;
 pub mod batch;
 pub mod book;
 pub mod coverage;

@@ -2,14 +2,14 @@
 
 use oracle::coverage::Coverage;
 use oracle::judge::{bench, judge};
-use oracle::{batch, book, print, stored};
+use oracle::{against, batch, book, print, stored};
 use std::io::{self, Read, Write};
 use std::process::ExitCode;
 use std::time::Duration;
 
 const USAGE: &str = "usage: oracle [--full] < sheet
        oracle --batch [--full] < batch
-       oracle --bench FILE | --coverage FILE
+       oracle --bench FILE | --coverage FILE | --against PROGRAM FILE
        oracle --answers > testdata/answers.bin
        oracle --book";
 
@@ -23,6 +23,7 @@ fn main() -> ExitCode {
         ["--batch", "--full"] | ["--full", "--batch"] => many(true),
         ["--bench", file] => time(file),
         ["--coverage", file] => count(file),
+        ["--against", program, file] => against(program, file),
         ["--answers"] => answers(),
         ["--book"] => Ok(print!("{}", book::text())),
         _ => Err(USAGE.to_owned()),
@@ -95,6 +96,13 @@ fn count(path: &str) -> Result<(), String> {
     }
     print!("{}", coverage.text());
     Ok(())
+}
+
+fn against(program: &str, path: &str) -> Result<(), String> {
+    let bytes = file(path)?;
+    let comparison = against::compare(program, &batch::split(&bytes)?)?;
+    print!("{}", comparison.text());
+    if comparison.differing.is_empty() { Ok(()) } else { Err("the two differ".to_owned()) }
 }
 
 fn answers() -> Result<(), String> {

@@ -1,21 +1,25 @@
 //! Where the book's forbidden opaque targets and the source part, in words.
 
-use oracle::book::{Shape, shapes};
+use oracle::book::{self, Shape};
+use std::collections::BTreeMap;
+use std::sync::LazyLock;
+
+static SHAPES: LazyLock<BTreeMap<Shape, Vec<u16>>> = LazyLock::new(book::shapes);
 
 const SLICES: [usize; 2] = [6, 7];
 const ARRAY: usize = 8;
 const CXX_AND_RUST: usize = 0b01100;
 const RUST: usize = 0b01000;
 
-fn parting() -> Vec<(Shape, Vec<u16>)> {
-    shapes().into_iter().filter(|(shape, _)| shape.parts()).collect()
+fn parting() -> impl Iterator<Item = (&'static Shape, &'static Vec<u16>)> {
+    SHAPES.iter().filter(|(shape, _)| shape.parts())
 }
 
 /// What the book forbids stands only in slices of a name that is declared as
 /// a C++ type and as a Rust type, which is a duplicate.
 #[test]
 fn source_lets_stand() {
-    for (shape, _) in parting().iter().filter(|(shape, _)| shape.book_forbids) {
+    for (shape, _) in parting().filter(|(shape, _)| shape.book_forbids) {
         assert!(SLICES.contains(&shape.target));
         assert_eq!(shape.declared, CXX_AND_RUST);
         assert!(shape.duplicate);
@@ -42,10 +46,10 @@ fn source_refuses_more() {
 #[test]
 fn counts() {
     let count = |test: &dyn Fn(&Shape) -> bool| -> usize {
-        let parting = parting().into_iter().filter(|(shape, _)| test(shape));
+        let parting = parting().filter(|(shape, _)| test(shape));
         parting.map(|(_, names)| names.len()).sum()
     };
-    assert_eq!(shapes().values().map(Vec::len).sum::<usize>(), 4_928);
+    assert_eq!(SHAPES.values().map(Vec::len).sum::<usize>(), 4_928);
     assert_eq!(count(&|shape| shape.book_forbids), 34);
     assert_eq!(count(&|shape| !shape.book_forbids && shape.opaque_message()), 1_268);
     assert_eq!(count(&|shape| !shape.book_forbids && !shape.opaque_message()), 862);
