@@ -3,6 +3,5 @@ pub mod Buffer
 pub mod Again
 pub mod Relend
 pub mod Stores
-pub mod ReasonCounts
 pub mod Records
 pub mod Turn
