@@ -1,3 +1,4 @@
 pub mod Windows
+pub mod Parts
 pub mod RunLaws
 pub mod RunCases

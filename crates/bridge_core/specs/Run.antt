@@ -2,16 +2,19 @@
 -- Assumes nothing: these are definitions.
 use mathlib.Core.Path.{_≡_}
 use Prim.Native.Nat.{ℕ}
-use mathlib.Core.List.{List, [], map}
+use mathlib.Core.List.{List, [], _∷_, map}
 use lib.ListN.{length, drop}
 use lib.Seq.{sets}
 use Rattle.rules.specs.declared.Step.{Step}
 use Rattle.rules.specs.declared.Step.the-variants.{Next, Refused}
+use Rattle.rules.specs.declared.Verdict.the-variants.{Accepted}
 use Rattle.rules.specs.declared.Answer.{Answer}
+use Rattle.rules.specs.Names.{size}
+use Rattle.names.specs.Table.{wordsAt}
 use Rattle.rules.specs.Types.{typesOf}
 use Rattle.rules.specs.Order.{walkOf}
 use Rattle.rules.specs.Report.{report, reportOf}
-use Rattle.rules.specs.Answer.{refused, accepted, readWith, cleared}
+use Rattle.rules.specs.Answer.{nameSet, refused, accepted, readWith, cleared}
 use Rattle.errors.specs.Codes.{codeOf}
 
 -- by what the reader says of the sheet
@@ -47,3 +50,9 @@ pub record Ran (s scratch₀ out : List ℕ) (from : ℕ) (r : Answer) (scratch�
   pub answer : r ≡ answerOf s (length scratch₀)
   pub scratch : scratch′ ≡ scratchOf s scratch₀
   pub window : out′ ≡ kept out from (codesOf s (length scratch₀))
+
+-- an accepted answer, of the table of seven sets and the rest of its parts
+unfoldable pub answerWith : (sets improper reasons order tiers : List ℕ) → (total : ℕ) → Answer
+answerWith w improper reasons order tiers total =
+    let all = wordsAt w 0 ∷ wordsAt w 1 ∷ wordsAt w 2 ∷ wordsAt w 3 ∷ wordsAt w 4 ∷ wordsAt w 5 ∷ wordsAt w 6 ∷ improper ∷ [] in
+    record { verdict = Accepted; sets = map nameSet all; sizes = map size all; reasons = reasons; order = order; tiers = tiers; total = total }

@@ -8,6 +8,8 @@ ghost use Rattle.bridge_core.specs.Windows.{least2, least3, nextOf};
 use rules::Answer;
 use rules::Diagnostic;
 
+mod answers; // answers, made of their parts
+
 // The record of the code for place i of the list, where the first code belongs at place `at`.
 pub fn record_from(codes: &[u64], at: usize, i: usize) -> Diagnostic
     requires { ⌜ (at ≤ i) × (i - at < length (now codes)) ⌝ }
