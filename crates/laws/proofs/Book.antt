@@ -1,17 +1,16 @@
 -- Where the book's rules on opaque targets and the source's messages agree, and where they part, kind by kind and exactly.
 -- Assumes nothing.
-use Prim.Native.Nat.{ℕ, zero, suc, _<_}
-use mathlib.Core.Path.{_≡_, refl, sym, ap, _∙_, subst}
-use mathlib.Core.Logic.{_⊎_, inl, inr, _↔_}
+use Prim.Native.Nat.{ℕ, _<_}
+use mathlib.Core.Path.{_≡_, refl, sym, ap, _∙_}
+use mathlib.Core.Logic.{_⊎_, inl, inr}
 use mathlib.Core.Bool.{Bool, true, false, not, _&&_, _||_}
-use mathlib.Core.List.{List, [], _∷_, _++_}
+use mathlib.Core.List.{List, [], _∷_}
 use native.Mathlib.Omega.{arith}
 use lib.Dec.{T, eqb}
 use lib.ListN.{getD}
 use Rattle.rules.specs.declared.Place.the-variants.{R}
-use Rattle.rules.specs.declared.Diagnostic.{Diagnostic}
 use Rattle.rules.specs.Base.{if_then_else_, some}
-use Rattle.rules.specs.Diagnostics.{say, tell, when, bit}
+use Rattle.rules.specs.Diagnostics.{tell, when, bit}
 use Rattle.rules.specs.Names.{_∋_, nameCxxString}
 use Rattle.rules.specs.Format.{Accepted}
 use Rattle.rules.specs.View.{Ident, RustBox, RustVec, UniquePtr, SharedPtr, WeakPtr, CxxVector, SliceRef, Array, Fn, Void, rows, kind, is, rowName, inner}

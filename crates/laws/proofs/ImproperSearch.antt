@@ -1,8 +1,8 @@
 -- The search for improper structs as improper.rs has it, pass after pass until one finds none, over any kind of set of names; and what it finds, over chains.
-use mathlib.Core.Path.{_≡_, refl, sym, ap, _∙_, subst}
+use mathlib.Core.Path.{_≡_, refl, sym, _∙_, subst}
 use mathlib.Core.Logic.{_≢_, _⊎_, inl, inr, _↔_}
-use mathlib.Core.Bool.{Bool, true, false, not, _||_}
-use Prim.Native.Nat.{ℕ, zero, suc, _+_, _≤_, _<_}
+use mathlib.Core.Bool.{Bool, true, false, _||_}
+use Prim.Native.Nat.{ℕ, zero, suc, _≤_, _<_}
 use native.Mathlib.Omega.{arith}
 use lib.Dec.{T, eqb}
 use Rattle.laws.proofs.Counts.{Eq?, same, other, eq?, eqb-same, free, free-one, free-le}

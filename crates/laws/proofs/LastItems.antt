@@ -1,19 +1,19 @@
 -- The tables of last items, and the fields that lead to struct items: what is computed is what the words of rule 3 say.
 -- Assumes nothing.
-use Prim.Native.Nat.{ℕ, zero, suc, _+_, _≤_, _<_}
+use Prim.Native.Nat.{ℕ, zero, suc, _≤_, _<_}
 use mathlib.Core.Path.{_≡_, refl, sym, ap, _∙_, subst}
 use mathlib.Core.Logic.{_≢_, _↔_, _⊎_}
 use mathlib.Core.Bool.{Bool, true, false, _&&_, _||_}
 use mathlib.Core.List.{List}
 use native.Mathlib.Omega.{arith}
 use lib.Dec.{T, eqb, ltb, leb, ltb→lt, lt→ltb, eqb→eq, eqb-refl}
-use lib.ListN.{length, getD, set, replicate, length-set, length-replicate, getD-replicate, List·getD-eq-default}
+use lib.ListN.{length, getD, set, length-set, length-replicate, getD-replicate, List·getD-eq-default}
 use lib.Seq.{getD-set-same, getD-set-other}
 use native.Mathlib.Decide.{decLt}
 use Rattle.rules.specs.Base.{if_then_else_}
 use Rattle.rules.specs.View.{Ident, Ref, Ptr, Array, is, kind, rowName, rows, inner, Struct, isType, items, itemKind, itemIs, itemName, fieldCount, field}
 use Rattle.rules.specs.Collect.{none, lastTo, entersStructs}
-use Rattle.rules.specs.Types.{Types, typesOf, structOf}
+use Rattle.rules.specs.Types.{typesOf, structOf}
 use Rattle.rules.specs.Graph.{Graph}
 use Rattle.laws.proofs.Chains.{Good, Edge}
 use Rattle.rules.specs.Order.{leadsTo, graphOf}

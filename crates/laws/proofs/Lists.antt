@@ -1,11 +1,11 @@
 -- A list of one entry for each number below n: its length, and entry x of it. Entry x of a table of 255 places.
 -- Assumes nothing.
-use mathlib.Core.Path.{_≡_, refl, sym, ap, _∙_, subst}
+use mathlib.Core.Path.{_≡_, refl, sym, ap, _∙_}
 use mathlib.Core.List.{List, [], _∷_, _++_}
 use Prim.Native.Nat.{ℕ, zero, suc, _+_, _-_, _≤_, _<_}
 use native.Mathlib.Omega.{arith}
 use native.Mathlib.Decide.{decLt}
-use lib.ListN.{length, getD, take, drop, replicate, length-append, length-replicate, List·getD-append, List·getD-eq-default}
+use lib.ListN.{length, getD, drop, replicate, length-append, length-replicate, List·getD-append, List·getD-eq-default}
 use lib.Seq.{sets, sets-eq, length-sets, getD-append-seam, getD-append-add, getD-drop}
 use Rattle.rules.specs.Base.{over}
 use Rattle.rules.specs.Answer.{places}

@@ -1,8 +1,8 @@
 -- Tiers: the longest chain from an item, 255 where a chain from it never ends.
-use mathlib.Core.Path.{_≡_, refl, sym, ap, _∙_, subst}
+use mathlib.Core.Path.{_≡_, refl, sym, _∙_, subst}
 use mathlib.Core.Logic.{_≢_, _⊎_, inl, inr, _↔_}
 use mathlib.Core.Bool.{Bool, true, false, not, _||_}
-use Prim.Native.Nat.{ℕ, zero, suc, _+_, _≤_, _<_, max, min}
+use Prim.Native.Nat.{ℕ, zero, suc, _≤_, _<_, max, min}
 use native.Mathlib.Omega.{arith}
 use native.Mathlib.Decide.{decLe}
 use lib.Dec.{T, eqb, leb, leb→le, nleb→lt}
@@ -10,7 +10,7 @@ use Rattle.laws.proofs.Counts.{Eq?, same, other, eq?, eqb-same, eqb-tru
 use Rattle.rules.specs.Graph.{Graph}
 use Rattle.laws.proofs.Chains.{Good, Edge, Chain, edge, link, Endless}
 use Rattle.laws.proofs.ChainLaws.{snoc}
-use Rattle.rules.specs.Tiers.{tops, capped, tierAt}
+use Rattle.rules.specs.Tiers.{tops, tierAt}
 
 abbrev pub Loops : Graph → ℕ → Type 0
 Loops G i = (c : ℕ) × Chain G i c × Chain G c c

@@ -1,23 +1,22 @@
 -- Sets of names 0 to 255, four words of 64 bits.
-use mathlib.Core.Path.{_≡_, refl, sym, ap, _∙_, subst}
-use mathlib.Core.Logic.{_≢_, _⊎_, inl, inr, _↔_}
-use mathlib.Core.Bool.{Bool, true, false, _||_}
-use mathlib.Core.List.{List, [], _∷_}
-use Prim.Native.Nat.{ℕ, zero, suc, _+_, _-_, _*_, _/_, _%_, _^_, _≤_, _<_, max}
+use mathlib.Core.Path.{_≡_, refl, sym, ap, _∙_}
+use mathlib.Core.Logic.{_≢_, _↔_}
+use mathlib.Core.Bool.{true, false, _||_}
+use mathlib.Core.List.{List, []}
+use Prim.Native.Nat.{ℕ, zero, suc, _+_, _-_, _*_, _/_, _%_, _^_, _<_, max}
 use native.Mathlib.Nat.{div-eq-of-lt, zero-div}
 use native.Mathlib.Omega.{arith}
 use native.Mathlib.Decide.{decLt}
 use lib.Bits.{bitOr, or-step, or-shr}
-use lib.Pow.{pow-pos, pow-lt, pow-add, shl-shr}
+use lib.Pow.{pow-lt, pow-add, shl-shr}
 use lib.Arith.{digits-mod}
 use lib.Dec.{T, eqb}
-use lib.ListN.{length, getD, set, replicate, length-set}
+use lib.ListN.{length, getD, set, length-set}
 use lib.Seq.{getD-set-same, getD-set-other}
-use Rattle.rules.specs.Improper.{Looks, Look, to, search}
+use Rattle.rules.specs.Improper.{Looks, to, search}
 use Rattle.laws.proofs.ImproperSearch.{Improper}
 use Rattle.laws.proofs.ImproperSearch.{improper-found}
-use Rattle.rules.specs.Diagnostics.{bit}
-use Rattle.laws.proofs.Counts.{Eq?, same, other, eq?, eqb-same, eqb-true, eqb-false}
+use Rattle.laws.proofs.Counts.{Eq?, same, other, eq?}
 use Rattle.rules.specs.Names.{bitOf, empty, add, _∋_ as has}
 
 or-mod2 : (a b : ℕ) → bitOr a b % 2 ≡ max (a % 2) (b % 2)

@@ -1,6 +1,6 @@
 -- Message 2 comes from the walk and from nothing else, so that the full report has it exactly where some chain leads back to its start.
 -- Assumes nothing.
-use Prim.Native.Nat.{ℕ, zero, suc}
+use Prim.Native.Nat.{ℕ}
 use mathlib.Core.Path.{_≡_, refl}
 use mathlib.Core.Logic.{_⊎_, inl, inr, _↔_}
 use mathlib.Core.List.{List, [], _∷_, _++_}
@@ -13,7 +13,7 @@ use Rattle.rules.specs.View.{items}
 use Rattle.rules.specs.Collect.{duplicates}
 use Rattle.rules.specs.Types.{Types, typesOf}
 use Rattle.laws.proofs.Chains.{Cycle}
-use Rattle.rules.specs.Walk.{Out, sortOut}
+use Rattle.rules.specs.Walk.{sortOut}
 use Rattle.rules.specs.Order.{graphOf, walkOf}
 use Rattle.rules.specs.Check.{check-type, check-api}
 use Rattle.rules.specs.Report.{reportOf, report}

@@ -8,19 +8,18 @@ use mathlib.Core.List.{List}
 use native.Mathlib.Omega.{arith}
 use native.Mathlib.Decide.{decLt}
 use lib.Dec.{T, eqb, ltb, ltb→lt, lt→ltb, eqb→eq, eqb-refl}
-use lib.ListN.{length}
 use Rattle.rules.specs.Base.{if_then_else_}
 use Rattle.rules.specs.Names.{_∋_, isAtom, nameRustString}
 use Rattle.rules.specs.View.{Ident, RustBox, RustVec, Ref, Ptr, Str, SliceRef, Array, Fn, Void, rows, kind, rowName, inner, Struct, RustType, TypeAlias, fieldCount, field}
 use Rattle.rules.specs.Collect.{none}
 use Rattle.rules.specs.Types.{Types, typesOf, structOf}
-use Rattle.rules.specs.Improper.{Look, fine, bad, to, definite, Looks, lookName, lookRow, looksFields, looksLook, looksOf, improperOf}
+use Rattle.rules.specs.Improper.{Look, fine, bad, to, definite, lookName, lookRow, looksFields, looksLook, looksOf, improperOf}
 use Rattle.laws.proofs.ImproperSearch.{Improper, here, there}
-use Rattle.rules.specs.Rule3.{IsStruct, LastStruct, Borne, Through, end, into, Bad, rust-string, box, vec, str, fn, void, slice, name, ends, goes}
+use Rattle.rules.specs.Rule3.{LastStruct, Borne, Through, end, into, Bad, rust-string, box, vec, str, fn, void, slice, name, ends, goes}
 use Rattle.rules.specs.Rule3 as R
 use Rattle.laws.proofs.Counts.{Eq?, same, other, eq?}
 use Rattle.laws.proofs.NameSets.{improper-names}
-use Rattle.laws.proofs.LastItems.{Fits, of-last, last-of, struct-named}
+use Rattle.laws.proofs.LastItems.{Fits, of-last, last-of}
 use Rattle.laws.proofs.SetMembers.{structs-are, rust-are, aliases-are, borne-small}
 use Rattle.laws.proofs.Tests.{never, is-true, is-false, or-cases, or-left, or-right, no-eq}
 

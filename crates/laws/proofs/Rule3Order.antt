@@ -2,11 +2,11 @@
 -- Assumes nothing.
 use Prim.Native.Nat.{ℕ, zero, suc, _+_, _≤_, _<_, min}
 use mathlib.Core.Path.{_≡_, refl, sym, ap, _∙_, subst}
-use mathlib.Core.Logic.{_≢_, _⊎_, inl, inr, _↔_}
-use mathlib.Core.Bool.{Bool, true, false, _&&_}
-use mathlib.Core.List.{List, [], _∷_}
+use mathlib.Core.Logic.{_⊎_, inl, inr, _↔_}
+use mathlib.Core.Bool.{false, _&&_}
+use mathlib.Core.List.{List}
 use native.Mathlib.Omega.{arith}
-use lib.Dec.{T, eqb, ltb, ltb→lt, lt→ltb}
+use lib.Dec.{T, ltb, ltb→lt, lt→ltb}
 use lib.ListN.{length, getD, take, drop, replicate, length-replicate}
 use lib.Seq.{sets, sets-eq, take-at}
 use Rattle.rules.specs.Diagnostics.{bit}
@@ -14,8 +14,8 @@ use Rattle.rules.specs.View.{Struct, items, itemIs}
 use Rattle.rules.specs.Types.{typesOf}
 use Rattle.rules.specs.Count.{count, place}
 use Rattle.rules.specs.Graph.{Graph}
-use Rattle.laws.proofs.Chains.{Good, Edge, Chain, edge, link, Cycle, Endless}
-use Rattle.rules.specs.Walk.{Out, sortOut}
+use Rattle.laws.proofs.Chains.{Edge, Chain, edge, link, Cycle, Endless}
+use Rattle.rules.specs.Walk.{sortOut}
 use Rattle.rules.specs.Tiers.{tiersOf}
 use Rattle.rules.specs.Answer.{places}
 use Rattle.laws.proofs.TierRule.{TierRule}
@@ -23,7 +23,7 @@ use Rattle.rules.specs.Order.{graphOf}
 use Rattle.rules.specs.Rule3.{IsStruct, Holds, Tiers3, structsTo, one, more}
 use Rattle.rules.specs.Rule3 as R
 use Rattle.laws.proofs.Counts.{Eq?, same, other, eq?}
-use Rattle.laws.proofs.WalkOrder.{InOrder, in-order, each-once, chain-end}
+use Rattle.laws.proofs.WalkOrder.{in-order, each-once, chain-end}
 use Rattle.laws.proofs.WalkCalls.{order-length, order-few}
 use Rattle.laws.proofs.Sums.{sumTo}
 use Rattle.laws.proofs.Tests.{is-true, is-false}

@@ -1,6 +1,6 @@
 -- A name is in a set of collected names exactly where an item that enters the set bears it.
 -- Assumes nothing.
-use Prim.Native.Nat.{ℕ, zero, suc, _≤_, _<_}
+use Prim.Native.Nat.{ℕ, zero, suc, _<_}
 use mathlib.Core.Path.{_≡_, refl, sym, ap, _∙_, subst}
 use mathlib.Core.Logic.{_↔_, _⊎_, inl, inr}
 use mathlib.Core.Bool.{Bool, true, false, not, _&&_, _||_}
@@ -8,10 +8,10 @@ use mathlib.Core.List.{List}
 use native.Mathlib.Omega.{arith}
 use lib.Dec.{T, eqb, leb, eqb→eq, eqb-refl}
 use lib.ListN.{length}
-use Rattle.rules.specs.Names.{Words, empty, add, _∋_}
+use Rattle.rules.specs.Names.{Words, add, _∋_}
 use Rattle.rules.specs.View.{Struct, Enum, CxxType, RustType, TypeAlias, items, itemKind, itemIs, itemName, typeTrusted}
 use Rattle.rules.specs.Collect.{namesTo, entersStructs, entersEnums, entersCxx, entersRust, entersAliases, entersUntrusted}
-use Rattle.rules.specs.Types.{Types, typesOf}
+use Rattle.rules.specs.Types.{typesOf}
 use Rattle.rules.specs.Rule3.{Borne}
 use Rattle.laws.proofs.Counts.{Eq?, same, other, eq?}
 use Rattle.laws.proofs.NameSets.{has-add, length-add, has-empty}

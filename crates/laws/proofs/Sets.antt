@@ -1,7 +1,7 @@
 -- Sets of names, once for all sets: a set is four words below 2 ^ 64, `add` keeps it so, its size is the count of its names below 256, and two sets with the
 -- same names are the same words. All sets of a sheet are sets.
 -- Assumes nothing.
-use mathlib.Core.Path.{_≡_, refl, sym, ap, _∙_, subst}
+use mathlib.Core.Path.{_≡_, refl, sym, ap, _∙_}
 use mathlib.Core.Logic.{_≢_}
 use mathlib.Core.Bool.{Bool, true, false, _&&_, _||_}
 use mathlib.Core.List.{List, [], _∷_}
@@ -13,18 +13,16 @@ use lib.Count.{onesIn}
 use lib.Pow.{pow-lt, shr-shr}
 use lib.Dec.{eqb, ltb}
 use borrow.Author.Tests.{le-ltb, lt-ltb}
-use lib.ListN.{length, getD, set, length-set}
+use lib.ListN.{length, getD, set}
 use lib.Seq.{getD-set-same, getD-set-other, set-out, ext-getD}
-use Rattle.rules.specs.Base.{if_then_else_}
 use Rattle.rules.specs.Diagnostics.{bit}
 use Rattle.rules.specs.View.{items, itemName}
 use Rattle.rules.specs.Collect.{namesTo, entersStructs, entersEnums, entersCxx, entersRust, entersAliases, entersUntrusted}
 use Rattle.rules.specs.Trivial.{requiredOf}
-use Rattle.rules.specs.Types.{Types, typesOf}
+use Rattle.rules.specs.Types.{typesOf}
 use Rattle.rules.specs.Improper.{Looks, looksOf, found, attempt, passTo, search, improperOf}
 use Rattle.rules.specs.Names.{Words, empty, bitOf, _∋_, add, size, namesBelow}
 use Rattle.laws.proofs.Counts.{Eq?, same, other, eq?}
-use Rattle.laws.proofs.Tests.{never, bit-le}
 use Rattle.laws.proofs.Sums.{sumTo, sum-same, sum-bits, sum-first, sum-split}
 use Rattle.laws.proofs.NameSets.{has-add, has-empty, length-add, empty-get}
 

@@ -1,19 +1,17 @@
 -- Which messages a list of diagnostics has, and which messages a row can have, by its kind.
 -- Assumes nothing.
-use Prim.Native.Nat.{ℕ, zero, suc, _<_}
+use Prim.Native.Nat.{ℕ, zero, suc}
 use mathlib.Core.Path.{_≡_, refl, sym, ap, _∙_, subst}
-use mathlib.Core.Logic.{_↔_, _⊎_, inl, inr}
-use mathlib.Core.Bool.{Bool, true, false, not, _&&_, _||_}
+use mathlib.Core.Logic.{_⊎_, inl, inr}
+use mathlib.Core.Bool.{Bool, true, false, _&&_, _||_}
 use mathlib.Core.List.{List, [], _∷_, _++_}
 use lib.Dec.{T, eqb, eqb→eq, eqb-refl}
-use lib.ListN.{getD}
 use Rattle.rules.specs.declared.Diagnostic.{Diagnostic}
-use Rattle.rules.specs.Base.{if_then_else_, over, anyOf}
-use Rattle.rules.specs.Diagnostics.{say, when}
-use Rattle.rules.specs.Types.{Types}
+use Rattle.rules.specs.Base.{if_then_else_, over}
+use Rattle.rules.specs.Diagnostics.{when}
 use Rattle.rules.specs.Rule3.{Some, first, later}
 use Rattle.laws.specs.Tells.{has, tells}
-use Rattle.laws.proofs.Tests.{never, or-left, or-right, or-cases}
+use Rattle.laws.proofs.Tests.{or-left, or-right, or-cases}
 
 -- ## Tests
 

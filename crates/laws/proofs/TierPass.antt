@@ -3,21 +3,21 @@
 use mathlib.Core.Path.{_≡_, refl, sym, ap, _∙_, subst}
 use mathlib.Core.Logic.{_≢_, _⊎_, inl, inr, _↔_}
 use mathlib.Core.Bool.{Bool, true, false}
-use mathlib.Core.List.{List, [], _∷_}
-use Prim.Native.Nat.{ℕ, zero, suc, _+_, _≤_, _<_}
+use mathlib.Core.List.{List}
+use Prim.Native.Nat.{ℕ, zero, suc, _≤_, _<_}
 use native.Mathlib.Omega.{arith}
 use native.Mathlib.Decide.{decLt}
-use lib.Dec.{T, eqb}
+use lib.Dec.{T}
 use lib.ListN.{length, getD, set, length-set, replicate, length-replicate}
 use lib.Seq.{getD-set-same, getD-set-other, ext-getD}
 use Rattle.rules.specs.Diagnostics.{bit}
 use Rattle.rules.specs.Count.{count, place}
 use Rattle.laws.proofs.Counts.{Eq?, same, other, eq?, place-lt, place-of, count-get, get-place}
 use Rattle.rules.specs.Graph.{Graph}
-use Rattle.laws.proofs.Chains.{Good, Edge, Chain, edge, link, Cycle}
+use Rattle.laws.proofs.Chains.{Good, Edge, Chain, edge, link}
 use Rattle.rules.specs.Walk.{sortOut}
 use Rattle.laws.proofs.WalkOrder.{InOrder, in-order, each-once, edge-or-back, stands, chain-end}
-use Rattle.laws.proofs.LongestChain.{Loops, tops-same, up, tier-wide, tier, tier-endless, tier-step}
+use Rattle.laws.proofs.LongestChain.{tops-same, up, tier-wide, tier, tier-endless, tier-step}
 use Rattle.rules.specs.Tiers.{tops, tiersOf}
 use Rattle.rules.specs.Answer.{places}
 use Rattle.laws.proofs.TierTable.{table-all, table-none}

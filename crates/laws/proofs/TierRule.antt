@@ -1,15 +1,14 @@
 -- The rule of tiers, of any table of tiers.
-use mathlib.Core.Path.{_≡_, refl, sym, ap, _∙_, subst}
+use mathlib.Core.Path.{_≡_, sym, ap, _∙_}
 use mathlib.Core.Logic.{_≢_, _⊎_, inl, inr, _↔_}
-use Prim.Native.Nat.{ℕ, zero, suc, _≤_, _<_, min}
-use native.Mathlib.Omega.{arith}
-use lib.Dec.{T, eqb}
+use Prim.Native.Nat.{ℕ, suc, _≤_, min}
+use lib.Dec.{T}
 use Rattle.laws.proofs.Counts.{Eq?, same, other, eq?}
 use Rattle.rules.specs.Graph.{Graph}
 use Rattle.rules.specs.Tiers.{tops}
-use Rattle.laws.proofs.Chains.{Good, Edge, Chain, edge, link, Endless}
+use Rattle.laws.proofs.Chains.{Good, Edge, edge, link, Endless}
 use Rattle.laws.proofs.WalkOrder.{chain-end}
-use Rattle.laws.proofs.LongestChain.{Loops, tops-ge, tops-at, up, tier, tier-endless, tier-step, loops-endless, endless-loops}
+use Rattle.laws.proofs.LongestChain.{tops-ge, tops-at, up, tier, tier-endless, tier-step, loops-endless, endless-loops}
 
 -- the tier rule of document 01, over any graph
 pub record TierRule (G : Graph) (t : ℕ → ℕ) : Type 0 where

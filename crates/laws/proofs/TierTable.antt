@@ -1,15 +1,13 @@
 -- The tiers of specs/Tiers, entry by entry: each struct item has its tier, the others have 0.
 -- Assumes nothing.
 use mathlib.Core.Path.{_≡_, refl, sym, ap, _∙_, subst}
-use mathlib.Core.Logic.{_≢_}
 use mathlib.Core.Bool.{Bool, true, false}
-use mathlib.Core.List.{List, [], _∷_, _++_, map}
-use Prim.Native.Nat.{ℕ, zero, suc, _+_, _≤_, _<_}
+use mathlib.Core.List.{List, [], _∷_, map}
+use Prim.Native.Nat.{ℕ, zero, suc, _≤_, _<_}
 use native.Mathlib.Omega.{arith}
 use native.Mathlib.Decide.{decLt}
 use lib.Dec.{T, leb, leb→le}
-use lib.ListN.{length, getD, replicate, length-map, length-replicate, List·getD-eq-default}
-use Rattle.rules.specs.Base.{over}
+use lib.ListN.{length, getD, length-map, length-replicate, List·getD-eq-default}
 use Rattle.rules.specs.Graph.{Graph}
 use Rattle.rules.specs.Answer.{places}
 use Rattle.rules.specs.Tiers.{tops, above, longest, capped, tierAt, tiersOf}

@@ -1,19 +1,18 @@
 -- The visits that the walk makes, without the walk: the struct items, and their fields that lead to one.
 use mathlib.Core.Path.{_≡_, refl, sym, ap, _∙_, subst}
-use mathlib.Core.Logic.{_≢_}
 use mathlib.Core.Bool.{Bool, true, false, not}
-use mathlib.Core.List.{List, [], _∷_, _++_}
+use mathlib.Core.List.{List, [], _∷_}
 use Prim.Native.Nat.{ℕ, zero, suc, _*_, _+_, _≤_, _<_}
 use native.Mathlib.Omega.{arith}
 use lib.Dec.{T, eqb}
 use lib.ListN.{length, getD, set, length-set, replicate, length-replicate}
 use Rattle.rules.specs.Diagnostics.{bit}
 use Rattle.rules.specs.Count.{count}
-use Rattle.laws.proofs.Counts.{Eq?, same, other, eq?, eqb-true, eqb-false, eqb-same, fresh, fresh-set, fresh-zeros}
+use Rattle.laws.proofs.Counts.{eqb-true, eqb-false, fresh, fresh-set, fresh-zeros}
 use Rattle.rules.specs.Graph.{Graph}
 use Rattle.laws.proofs.Chains.{Good}
 use Rattle.rules.specs.Walk.{Out, still, join, flagged, seen, finished, fieldOut, fieldsOut, visitOut, itemOut, itemsOut, sortOut}
-use Rattle.laws.proofs.WalkFuel.{Shrinks, Down, fields-shrinks, field-shrinks, visit-shrinks}
+use Rattle.laws.proofs.WalkFuel.{Shrinks, Down, fields-shrinks, visit-shrinks}
 use Rattle.laws.proofs.WalkOrder.{each-once}
 use Rattle.laws.proofs.Sums.{sumTo, sum-same, sum-add, sum-bits, weight, weight-append, weight-sum, weight-one}
 

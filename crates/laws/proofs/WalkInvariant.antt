@@ -3,7 +3,7 @@ use mathlib.Core.Path.{_≡_, refl, sym, ap, _∙_, subst}
 use mathlib.Core.Logic.{_≢_, _⊎_, inl, inr}
 use mathlib.Core.Bool.{Bool, true, false, _&&_}
 use mathlib.Core.List.{List, [], _∷_, _++_, append-nil, append-assoc}
-use Prim.Native.Nat.{ℕ, zero, suc, pred, _+_, _*_, _≤_, _<_}
+use Prim.Native.Nat.{ℕ, zero, suc, pred, _+_, _≤_, _<_}
 use native.Mathlib.Omega.{arith}
 use native.Mathlib.Nat.{add-assoc, add-zero}
 use lib.Dec.{T, eqb}
@@ -12,7 +12,7 @@ use lib.Seq.{getD-set-same, getD-set-other}
 use Rattle.rules.specs.Count.{count, place}
 use Rattle.laws.proofs.Counts.{Eq?, same, other, eq?, eqb-true, eqb-false, count-snoc-same, count-snoc-other, place-lt, place-append, place-new, fresh, fresh-set, fresh-set-le, fresh-zeros}
 use Rattle.rules.specs.Graph.{Graph}
-use Rattle.laws.proofs.Chains.{Good, Edge, Chain, edge, link, Cycle}
+use Rattle.laws.proofs.Chains.{Good, Edge, Chain, edge, Cycle}
 use Rattle.laws.proofs.ChainLaws.{snoc}
 use Rattle.rules.specs.Walk.{Out, still, join, blame, flagged, seen, finished, fieldOut, fieldsOut, visitOut, itemOut, itemsOut}
 use Rattle.rules.specs.Diagnostics.{say}

@@ -1,9 +1,9 @@
 -- Rule 3 of the order and of the cyclic diagnostics, over chains.
-use mathlib.Core.Path.{_≡_, refl, sym, ap, _∙_, subst}
-use mathlib.Core.Logic.{_≢_, _⊎_, inl, inr, _↔_}
+use mathlib.Core.Path.{_≡_, refl, sym, _∙_, subst}
+use mathlib.Core.Logic.{_⊎_, inl, inr, _↔_}
 use mathlib.Core.Bool.{Bool, true, false}
 use mathlib.Core.List.{List, [], _∷_}
-use Prim.Native.Nat.{ℕ, zero, suc, pred, _+_, _≤_, _<_}
+use Prim.Native.Nat.{ℕ, suc, _+_, _<_}
 use native.Mathlib.Omega.{arith}
 use lib.Dec.{T}
 use lib.ListN.{length, getD}
@@ -12,7 +12,7 @@ use Rattle.rules.specs.Count.{count, place}
 use Rattle.rules.specs.Graph.{Graph}
 use Rattle.laws.proofs.Chains.{Good, Edge, Chain, edge, link, Cycle}
 use Rattle.rules.specs.declared.Diagnostic.{Diagnostic}
-use Rattle.rules.specs.Walk.{Out, itemsOut, sortOut}
+use Rattle.rules.specs.Walk.{sortOut}
 use Rattle.laws.proofs.WalkInvariant.{Inv, Earlier, Walked, walked}
 
 -- every edge of a struct item leads to one that stands earlier

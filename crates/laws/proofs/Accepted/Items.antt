@@ -11,10 +11,10 @@ use borrow.Author.Tests.{eqb-true}
 use Rattle.rules.specs.declared.Step.{Step}
 use Rattle.rules.specs.declared.Step.the-variants.{Next}
 use Rattle.rules.specs.Base.{if_then_else_}
-use Rattle.rules.specs.Format.{after, pairAt, offset, limited, function, itemKinds, itemOf, item, Accepted}
-use Rattle.rules.specs.View.{Ident, rows, kind, Struct, Enum, CxxType, RustType, CxxFunction, RustFunction, TypeAlias, Impl, items, itemPlace, itemKind, itemIs, isType, isFunction, itemName, past, entry, lifetimesPlace, lifetimeCount, lifetime, derivesPlace, deriveCount, derive, rest, fieldCount, field, enumRepr, enumVariants, enumDefaults, receiverPlace, form, selfType, returnPlace, return, argCount, arg, implRow}
+use Rattle.rules.specs.Format.{pairAt, offset, limited, function, itemKinds, itemOf, item, Accepted}
+use Rattle.rules.specs.View.{Ident, rows, kind, Struct, Enum, CxxType, RustType, CxxFunction, RustFunction, TypeAlias, Impl, items, itemPlace, itemKind, itemIs, isType, isFunction, itemName, past, lifetimesPlace, lifetimeCount, lifetime, derivesPlace, deriveCount, derive, rest, fieldCount, field, enumRepr, enumVariants, enumDefaults, receiverPlace, form, selfType, returnPlace, return, argCount, arg, implRow}
 use Rattle.laws.proofs.Accepted.Steps.{after-is, Reads, _then_, nothing-read, RowOrNone, ListAt, HeadAt, ReceiverAt, limited-reads, orNone-reads, list-reads, head-reads, repr-reads, variants-reads, receiver-reads}
-use Rattle.laws.proofs.Accepted.Sheet.{Bodies, bodies-of}
+use Rattle.laws.proofs.Accepted.Sheet.{bodies-of}
 use Rattle.laws.proofs.Tests.{never, or-is}
 
 module _ (s : List ℕ) (i : ℕ) where

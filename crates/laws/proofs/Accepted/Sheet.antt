@@ -1,6 +1,6 @@
 -- An accepted sheet as a whole: its limits, and its bodies, each at the offset that the contents give, without gaps.
 -- Assumes nothing.
-use Prim.Native.Nat.{ℕ, zero, suc, _+_, _-_, _*_, _≤_, _<_}
+use Prim.Native.Nat.{ℕ, suc, _+_, _-_, _*_, _≤_, _<_}
 use mathlib.Core.Path.{_≡_, refl, sym, ap, _∙_, subst}
 use mathlib.Core.List.{List}
 use mathlib.Core.Bool.{Bool, true, false}
@@ -10,7 +10,7 @@ use lib.Dec.{ltb, leb, eqb}
 use borrow.Author.Tests.{ltb-true, ltb-false, leb-true, eqb-true}
 use Rattle.rules.specs.declared.Step.{Step}
 use Rattle.rules.specs.declared.Step.the-variants.{Next}
-use Rattle.rules.specs.Format.{check, after, each, pairAt, offset, row, fresh, rowAt, item, itemAt, read, Accepted}
+use Rattle.rules.specs.Format.{check, after, each, offset, row, fresh, rowAt, item, itemAt, read, Accepted}
 use Rattle.rules.specs.View.{rows, items}
 use Rattle.laws.proofs.Accepted.Steps.{after-is, check-is, EachRead, each-read}
 

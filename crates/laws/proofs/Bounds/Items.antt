@@ -1,10 +1,10 @@
 -- How many records an item has, of messages 1, 2 and 27 to 58: no more than its bytes, and two for its offset.
 -- Assumes nothing.
 use Prim.Native.Nat.{ℕ, zero, suc, _+_, _*_, _≤_, _<_}
-use mathlib.Core.Path.{_≡_, refl, sym, ap, _∙_}
-use mathlib.Core.Logic.{_⊎_, inl, inr}
-use mathlib.Core.Bool.{Bool, true, false, not, _&&_}
-use mathlib.Core.List.{List, [], _∷_}
+use mathlib.Core.Path.{_≡_, refl}
+use mathlib.Core.Logic.{inl, inr}
+use mathlib.Core.Bool.{not, _&&_}
+use mathlib.Core.List.{List, []}
 use native.Mathlib.Omega.{arith}
 use lib.Dec.{eqb}
 use lib.ListN.{length, getD, length-append}
@@ -18,7 +18,7 @@ use Rattle.rules.specs.Collect.{duplicate}
 use Rattle.rules.specs.Types.{Types}
 use Rattle.rules.specs.Check.{check-reserved-name, check-reserved-lifetime, check-lifetimes, check-struct-derive, check-struct-field, check-api-struct, check-enum-derive, check-api-enum, check-opaque-derive, check-api-type, check-mut-return-restriction, check-fn-generics, check-fn-receiver, check-fn-self-type, check-fn-arg, check-fn-return, check-api-fn, check-api-type-alias, check-impl-self, check-api-impl, no-check, api-checks, check-api}
 use Rattle.laws.proofs.Accepted.Sheet.{bodies-of}
-use Rattle.laws.proofs.Accepted.Items.{Sizes, item-of, item-sizes}
+use Rattle.laws.proofs.Accepted.Items.{item-of, item-sizes}
 use Rattle.laws.proofs.Bounds.Lengths.{length-when, when-one, none≤1, one≤1, if-few, over-few}
 
 module _ (s : List ℕ) (t : Types) (i : ℕ) where

@@ -1,17 +1,16 @@
 -- The visits that the walk makes, in the words of the sheet: one for each struct item, and one for each plain field of a struct item that bears a struct's
 -- name. At most so many of message 2, less the struct items.
 -- Assumes nothing.
-use Prim.Native.Nat.{ℕ, zero, suc, _+_, _*_, _≤_, _<_}
-use mathlib.Core.Path.{_≡_, refl, sym, ap, _∙_, subst}
-use mathlib.Core.Logic.{_≢_}
+use Prim.Native.Nat.{ℕ, zero, suc, _+_, _*_, _≤_}
+use mathlib.Core.Path.{_≡_, refl, ap, _∙_}
 use mathlib.Core.Bool.{Bool, true, false, not, _&&_}
-use mathlib.Core.List.{List, [], _∷_, _++_}
+use mathlib.Core.List.{List}
 use native.Mathlib.Omega.{arith}
-use lib.Dec.{T, eqb, ltb}
+use lib.Dec.{eqb, ltb}
 use lib.ListN.{length, getD, set, replicate, length-append}
 use Rattle.rules.specs.Diagnostics.{bit}
 use Rattle.rules.specs.Graph.{Graph}
-use Rattle.rules.specs.Walk.{Out, still, join, blame, flagged, seen, finished, fieldOut, fieldsOut, visitOut, itemOut, itemsOut, sortOut}
+use Rattle.rules.specs.Walk.{Out, still, blame, flagged, seen, finished, fieldOut, fieldsOut, visitOut, itemOut, itemsOut, sortOut}
 use Rattle.laws.proofs.Sums.{sumTo, sum-same, sum-add, sum-cut}
 use Rattle.rules.specs.View.{Ident, is, rowName, Struct, items, itemKind, itemIs, fieldCount, field}
 use Rattle.rules.specs.Base.{if_then_else_}

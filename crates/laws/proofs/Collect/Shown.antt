@@ -7,7 +7,7 @@ use mathlib.Core.Bool.{Bool, true, false, _||_}
 use mathlib.Core.List.{List, [], _∷_, _++_}
 use lib.Dec.{eqb}
 use borrow.Author.Tests.{eqb-true}
-use Rattle.rules.specs.Base.{if_then_else_, over, some}
+use Rattle.rules.specs.Base.{if_then_else_, some}
 use Rattle.rules.specs.Format.{pairAt, offset, Accepted}
 use Rattle.rules.specs.View.{Ident, Str, Fn, Void, rows, kind, inner, fnReturn, fnArgs, fnArgCount, fnArg, shown, orNothing, entry, entries, Struct, Enum, CxxFunction, RustFunction, Impl, items, itemKind, itemIs, isFunction, rest, fields, fieldCount, field, enumRepr, args, argCount, arg, returnPlace, return, implRow}
 use Rattle.rules.specs.Collect.{shownBy}

@@ -1,20 +1,19 @@
 -- A row that is met again need not be walked again: all that it shows has been collected, since rows refer to smaller rows only. Above the row, the fuel
 -- of either walk is of no account.
 -- Assumes nothing.
-use Prim.Native.Nat.{ℕ, zero, suc, _+_, _≤_, _<_}
-use mathlib.Core.Path.{_≡_, refl, sym, ap, _∙_}
+use Prim.Native.Nat.{ℕ, zero, suc, _≤_, _<_}
+use mathlib.Core.Path.{_≡_, refl, ap}
 use mathlib.Core.Logic.{_⊎_, inl, inr}
 use mathlib.Core.Bool.{Bool, true, false}
 use mathlib.Core.List.{List, [], _∷_, _++_, foldl}
 use native.Mathlib.Omega.{arith}
-use lib.Dec.{eqb}
-use Rattle.rules.specs.Base.{if_then_else_, anyOf}
+use Rattle.rules.specs.Base.{if_then_else_}
 use Rattle.rules.specs.Count.{count}
 use Rattle.rules.specs.View.{rows, shown}
 use Rattle.rules.specs.Collect.{enter, visit}
 use Rattle.laws.specs.Reach.{In}
 use Rattle.laws.specs.Skip.{seen, skipVisit}
-use Rattle.laws.proofs.Counts.{Eq?, same, other, eq?, count-append, count-snoc-same, count-snoc-other}
+use Rattle.laws.proofs.Counts.{Eq?, same, other, eq?, count-snoc-same, count-snoc-other}
 use Rattle.laws.proofs.Members.{in-none, in-head, in-tail, in-cons, in-one, in-left, in-right, in-cases, Seen?, old, new, seen?}
 
 -- ## Entering a row
