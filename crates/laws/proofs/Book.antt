@@ -15,10 +15,12 @@ use Rattle.rules.specs.Names.{_∋_, nameCxxString}
 use Rattle.rules.specs.Format.{Accepted}
 use Rattle.rules.specs.View.{Ident, RustBox, RustVec, UniquePtr, SharedPtr, WeakPtr, CxxVector, SliceRef, Array, Fn, Void, rows, kind, is, rowName, inner}
 use Rattle.rules.specs.Types.{Types}
-use Rattle.rules.specs.Check.{check-type-box, check-type-rust-vec, check-type-unique-ptr, check-type-shared-ptr, check-type-weak-ptr, check-type-cxx-vector, check-type-slice-ref, check-type-array, is-unsized-ident, is-unsized, type-checks, check-type}
+use Rattle.rules.specs.Check.{check-type-box, check-type-rust-vec, check-type-unique-ptr, check-type-shared-ptr, check-type-weak-ptr, check-type-cxx-vector}
+use Rattle.rules.specs.Check.{check-type-slice-ref, check-type-array, is-unsized-ident, is-unsized, type-checks, check-type}
 use Rattle.rules.specs.Book.{isShared, opaqueCxx, opaqueRust, holdsNoCxx, holdsNoRust, forbidden}
 use Rattle.laws.specs.Tells.{has, tells, tellsWith}
-use Rattle.laws.proofs.Tells.{tells-some, or-false, or-true, and-true, and-false, if-test, if-no, if-same, has-append, has-one, has-none, has-when, has-if}
+use Rattle.laws.proofs.Tells.{tells-some, or-false, or-true, and-true, and-false, if-test, if-no, if-same, has-append, has-one, has-none, has-when}
+use Rattle.laws.proofs.Tells.{has-if}
 use Rattle.laws.proofs.Accepted.Rows.{hasInner, row-of}
 use Rattle.laws.proofs.Fuel.{unsizedBy, unsized-is}
 use Rattle.laws.proofs.Tests.{never, is-true, holds, or-is, both-are, implied, all-pass}
@@ -43,7 +45,8 @@ module _ (s : List ℕ) (t : Types) (r : ℕ) where
   abbrev pub name : ℕ
   name = rowName s (inner s r)
 
-  forbidden-by : (a b : Bool) → holdsNoCxx (kind s r) ≡ a → holdsNoRust (kind s r) ≡ b → forbidden s t r ≡ (plain && ((a && opaqueCxx t name) || (b && opaqueRust t name)))
+  forbidden-by : (a b : Bool) → holdsNoCxx (kind s r) ≡ a → holdsNoRust (kind s r) ≡ b
+      → forbidden s t r ≡ (plain && ((a && opaqueCxx t name) || (b && opaqueRust t name)))
   unfolding forbidden
   forbidden-by a b e d = rw (e, d) refl
 
@@ -282,7 +285,8 @@ module _ (s : List ℕ) (acc : Accepted s) (t : Types) (r : ℕ) (l : r < rows s
   rust-by : (k m : ℕ) → targetMessage k ≡ m → kind s r ≡ k → Rust s t r m → forbidden s t r ≡ true → Refused
   rust-by k m e q h f = by-kind k m e q (h .tells-is ∙ ap (λ b. b || (plain s t r && t .rust ∋ name s t r && isShared t (name s t r))) f)
 
-  cxx-kinds : (a b c d : Bool) → eqb (kind s r) RustBox ≡ a → eqb (kind s r) RustVec ≡ b → eqb (kind s r) SliceRef ≡ c → eqb (kind s r) Array ≡ d → (a || b || c || d) ≡ true
+  cxx-kinds : (a b c d : Bool) → eqb (kind s r) RustBox ≡ a → eqb (kind s r) RustVec ≡ b → eqb (kind s r) SliceRef ≡ c → eqb (kind s r) Array ≡ d
+      → (a || b || c || d) ≡ true
       → forbidden s t r ≡ true → Refused
   unfolding targetMessage
   cxx-kinds true b c d e _ _ _ h f = let q = eqb-true (kind s r) RustBox e in by-kind RustBox 4 refl q (box-is s t r q ∙ f)
@@ -291,7 +295,8 @@ module _ (s : List ℕ) (acc : Accepted s) (t : Types) (r : ℕ) (l : r < rows s
   cxx-kinds false false false true _ _ _ e h f = let q = eqb-true (kind s r) Array e in by-kind Array 24 refl q (array-refused s acc t r l q f)
   cxx-kinds false false false false _ _ _ _ h f = never h
 
-  rust-kinds : (a b c d : Bool) → eqb (kind s r) UniquePtr ≡ a → eqb (kind s r) SharedPtr ≡ b → eqb (kind s r) WeakPtr ≡ c → eqb (kind s r) CxxVector ≡ d → (a || b || c || d) ≡ true
+  rust-kinds : (a b c d : Bool) → eqb (kind s r) UniquePtr ≡ a → eqb (kind s r) SharedPtr ≡ b → eqb (kind s r) WeakPtr ≡ c → eqb (kind s r) CxxVector ≡ d
+      → (a || b || c || d) ≡ true
       → forbidden s t r ≡ true → Refused
   unfolding targetMessage
   rust-kinds true b c d e _ _ _ h f = let q = eqb-true (kind s r) UniquePtr e in rust-by UniquePtr 8 refl q (unique-is s t r q) f
@@ -331,7 +336,9 @@ module _ (s : List ℕ) (acc : Accepted s) (t : Types) (r : ℕ) (l : r < rows s
   says-4 h = go (or-is (eqb (kind s r) RustBox) (eqb (kind s r) RustVec) (said-among 4 (λ x. eqb x RustBox || eqb x RustVec) refl h))
     where
       vec : kind s r ≡ RustVec → (kind s r ≡ RustVec) × (kind s (inner s r) ≡ RustBox) × (forbidden s t (inner s r) ≡ true)
-      vec q = let b = both-are (is s RustBox (inner s r)) (forbidden s t (inner s r)) (sym (vec-box s t r q) ∙ h) in (q, is-kind s RustBox (inner s r) (b .0), b .1)
+      vec q =
+          let b = both-are (is s RustBox (inner s r)) (forbidden s t (inner s r)) (sym (vec-box s t r q) ∙ h) in
+          (q, is-kind s RustBox (inner s r) (b .0), b .1)
 
       go : (eqb (kind s r) RustBox ≡ true) ⊎ (eqb (kind s r) RustVec ≡ true)
           → ((kind s r ≡ RustBox) × (forbidden s t r ≡ true)) ⊎ ((kind s r ≡ RustVec) × (kind s (inner s r) ≡ RustBox) × (forbidden s t (inner s r) ≡ true))
@@ -343,7 +350,8 @@ module _ (s : List ℕ) (acc : Accepted s) (t : Types) (r : ℕ) (l : r < rows s
   says-6 h = let q = said-by 6 RustVec refl h in (q, sym (vec-is s t r q) ∙ h)
 
   -- a RustType's name; forbidden, or a struct, enum or alias shares it
-  rust-says : (k m : ℕ) → kind s r ≡ k → Rust s t r m → tells m (check-type s t r) ≡ true → (kind s r ≡ k) × ((forbidden s t r ≡ true) ⊎ (isShared t (name s t r) ≡ true))
+  rust-says : (k m : ℕ) → kind s r ≡ k → Rust s t r m → tells m (check-type s t r) ≡ true
+      → (kind s r ≡ k) × ((forbidden s t r ≡ true) ⊎ (isShared t (name s t r) ≡ true))
   rust-says k m q p h = (q, go (isShared t (name s t r)) refl)
     where
       go : (b : Bool) → isShared t (name s t r) ≡ b → (forbidden s t r ≡ true) ⊎ (isShared t (name s t r) ≡ true)

@@ -61,7 +61,8 @@ module _ (s : List ℕ) (acc : Accepted s) where
   pub collected-once : (k x : ℕ) → count x (collectedTo s k) ≤ 1
   unfolding collectedTo
   collected-once zero = λ x. omega arith
-  collected-once (suc k) = fold-keeps (visit s (rows s)) (λ a. (x : ℕ) → count x a ≤ 1) (shownBy s k) (collectedTo s k) (collected-once k) (λ a r _ h. visit-once s (rows s) r a h)
+  collected-once (suc k) =
+      fold-keeps (visit s (rows s)) (λ a. (x : ℕ) → count x a ≤ 1) (shownBy s k) (collectedTo s k) (collected-once k) (λ a r _ h. visit-once s (rows s) r a h)
 
   -- ## Exactly what the items reach
 

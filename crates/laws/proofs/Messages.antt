@@ -93,7 +93,8 @@ module _ (s : List ℕ) (t : Types) where
 
   check-type-rust-vec : (r : ℕ) → Every (between 4 7) (K.check-type-rust-vec s t r)
   unfolding K.check-type-rust-vec
-  check-type-rust-vec r = branch _ (one tt) (branch _ none (branch _ none (branch _ (wider 4 5 4 7 (omega arith) (omega arith) (check-type-box (inner s r))) (one tt))))
+  check-type-rust-vec r =
+      branch _ (one tt) (branch _ none (branch _ none (branch _ (wider 4 5 4 7 (omega arith) (omega arith) (check-type-box (inner s r))) (one tt))))
 
   check-type-unique-ptr : (r : ℕ) → Every (between 8 9) (K.check-type-unique-ptr s t r)
   unfolding K.check-type-unique-ptr
@@ -145,7 +146,8 @@ module _ (s : List ℕ) (t : Types) where
 
   check-api-struct : (i : ℕ) → Every (between 27 58) (K.check-api-struct s t i)
   unfolding K.check-api-struct
-  check-api-struct i = check-reserved-name i & check-lifetimes i & said _ (one tt) & said _ (one tt) & all _ _ (check-struct-derive i) & all _ _ (check-struct-field i)
+  check-api-struct i =
+      check-reserved-name i & check-lifetimes i & said _ (one tt) & said _ (one tt) & all _ _ (check-struct-derive i) & all _ _ (check-struct-field i)
 
   check-enum-derive : (i j : ℕ) → Every (between 27 58) (K.check-enum-derive s t i j)
   unfolding K.check-enum-derive
@@ -189,7 +191,9 @@ module _ (s : List ℕ) (t : Types) where
 
   check-api-fn : (i : ℕ) → Every (between 27 58) (K.check-api-fn s t i)
   unfolding K.check-api-fn
-  check-api-fn i = check-fn-generics i & check-lifetimes i & branch _ (check-fn-receiver i) (branch _ none (check-fn-self-type i)) & all _ _ (check-fn-arg i) & check-fn-return i & branch _ (check-mut-return-restriction i) none
+  check-api-fn i =
+      check-fn-generics i & check-lifetimes i & branch _ (check-fn-receiver i) (branch _ none (check-fn-self-type i)) & all _ _ (check-fn-arg i)
+      & check-fn-return i & branch _ (check-mut-return-restriction i) none
 
   check-api-type-alias : (i : ℕ) → Every (between 27 58) (K.check-api-type-alias s t i)
   unfolding K.check-api-type-alias
@@ -262,7 +266,8 @@ blamed true i k = none
 blamed false i k = one tt
 
 module _ (G : Graph) where
-  field-say : (v : List ℕ → ℕ → Out) → ((m : List ℕ) (j : ℕ) → Every (between 2 2) (v m j .errors)) → (i k : ℕ) (m : List ℕ) → Every (between 2 2) (fieldOut v G i k m .errors)
+  field-say : (v : List ℕ → ℕ → Out) → ((m : List ℕ) (j : ℕ) → Every (between 2 2) (v m j .errors)) → (i k : ℕ) (m : List ℕ)
+      → Every (between 2 2) (fieldOut v G i k m .errors)
   unfolding fieldOut
   field-say v h i k m = go (eqb (G .to i k) 255)
     where
@@ -270,7 +275,8 @@ module _ (G : Graph) where
       go true = none
       go false = h m (G .to i k) & blamed (v m (G .to i k) .ok) i k
 
-  fields-say : (v : List ℕ → ℕ → Out) → ((m : List ℕ) (j : ℕ) → Every (between 2 2) (v m j .errors)) → (i k : ℕ) (m : List ℕ) → Every (between 2 2) (fieldsOut v G i k m .errors)
+  fields-say : (v : List ℕ → ℕ → Out) → ((m : List ℕ) (j : ℕ) → Every (between 2 2) (v m j .errors)) → (i k : ℕ) (m : List ℕ)
+      → Every (between 2 2) (fieldsOut v G i k m .errors)
   unfolding fieldsOut
   fields-say v h i zero m = none
   fields-say v h i (suc k) m = fields-say v h i k m & field-say v h i k (fieldsOut v G i k m .marks)
@@ -280,7 +286,8 @@ module _ (G : Graph) where
   visit-say zero m i = none
   visit-say (suc f) m i = go (eqb (getD m i 0) 0) (visit-say f)
     where
-      go : (b : Bool) → ((m : List ℕ) (j : ℕ) → Every (between 2 2) (visitOut f G m j .errors)) → Every (between 2 2) ((elim b as (λ _. Out) [ true ↦ finished i (fieldsOut (visitOut f G) G i (G .fields i) (set m i 1)) | false ↦ seen (eqb (getD m i 0) 2) m ]) .errors)
+      go : (b : Bool) → ((m : List ℕ) (j : ℕ) → Every (between 2 2) (visitOut f G m j .errors))
+          → Every (between 2 2) ((elim b as (λ _. Out) [ true ↦ finished i (fieldsOut (visitOut f G) G i (G .fields i) (set m i 1)) | false ↦ seen (eqb (getD m i 0) 2) m ]) .errors)
       go true h = fields-say (visitOut f G) h i (G .fields i) (set m i 1)
       go false h = none
 

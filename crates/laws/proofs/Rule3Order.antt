@@ -79,7 +79,8 @@ module _ (s : List ℕ) (fits : Fits s) where
   sum-high zero l = sum-low zero (omega arith) ∙ ap (structsTo s) (let e : 0 ≡ items s = omega arith in e)
   sum-high (suc k) l = go (eq? (items s) (suc k)) (sum-high k)
     where
-      go : Eq? (items s) (suc k) → (items s ≤ k → sumTo k (λ x. bit (G .struct x)) ≡ structsTo s (items s)) → sumTo k (λ x. bit (G .struct x)) + bit (G .struct k) ≡ structsTo s (items s)
+      go : Eq? (items s) (suc k) → (items s ≤ k → sumTo k (λ x. bit (G .struct x)) ≡ structsTo s (items s))
+          → sumTo k (λ x. bit (G .struct x)) + bit (G .struct k) ≡ structsTo s (items s)
       go (same _ e) ih = sum-low (suc k) (omega arith) ∙ ap (structsTo s) (sym e)
       go (other _ e) ih =
           let z : ltb k (items s) ≡ false = is-false (ltb k (items s)) (λ t. let l′ = ltb→lt k (items s) t in omega arith) in
@@ -90,7 +91,9 @@ module _ (s : List ℕ) (fits : Fits s) where
 
   pub order-is : take (structsTo s (items s)) (places sorted) ≡ sorted
   unfolding places
-  order-is = ap (λ n. take n (places sorted)) (sym places-are) ∙ stored (replicate 255 0) sorted (let l : length sorted ≤ 255 = order-few G 255 (good s fits) in subst (λ (n : ℕ). length sorted ≤ n) (sym (length-replicate {A = ℕ} 255 0)) l)
+  order-is =
+      ap (λ n. take n (places sorted)) (sym places-are)
+      ∙ stored (replicate 255 0) sorted (let l : length sorted ≤ 255 = order-few G 255 (good s fits) in subst (λ (n : ℕ). length sorted ≤ n) (sym (length-replicate {A = ℕ} 255 0)) l)
     where
       stored : (l o : List ℕ) → length o ≤ length l → take (length o) (sets l 0 o) ≡ o
       stored l o h = rw (sets-eq o l 0 (omega arith)) (take-at o (drop (0 + length o) l) (length o) refl)
@@ -129,6 +132,7 @@ module _ (s : List ℕ) (fits : Fits s) where
       rule : TierRule G (λ x. getD table x 0)
       rule = tier-rule G (items s) (good-items s fits) (λ x. getD table x 0) (table-all G (items s) (good-items s fits) (fits .few))
 
-      most : (i : ℕ) → IsStruct s i → (getD table i 0 ≡ 0) ⊎ ((j : ℕ) × Edge G i j × (getD table i 0 ≡ min 254 (suc (getD table j 0)))) → (getD table i 0 ≡ 0) ⊎ ((k : ℕ) × Holds s i k × (getD table i 0 ≡ min 254 (suc (getD table k 0))))
+      most : (i : ℕ) → IsStruct s i → (getD table i 0 ≡ 0) ⊎ ((j : ℕ) × Edge G i j × (getD table i 0 ≡ min 254 (suc (getD table j 0))))
+          → (getD table i 0 ≡ 0) ⊎ ((k : ℕ) × Holds s i k × (getD table i 0 ≡ min 254 (suc (getD table k 0))))
       most i si (inl e) = inl e
       most i si (inr r) = inr (r .0, edge-holds s i (r .0) si (r .1), r .2)

@@ -231,4 +231,5 @@ sets-of s =
 -- a name is required trivial exactly where it has a reason
 pub required-is : (s : List ℕ) (n : ℕ) → n < 256 → typesOf s .requiredTrivial ∋ n ≡ ltb 0 (getD (typesOf s .reasons) n 0)
 unfolding typesOf requiredOf
-required-is s n l = below-is (λ n. ltb 0 (getD (typesOf s .reasons) n 0)) 256 n (omega arith) ∙ ap (λ b. b && ltb 0 (getD (typesOf s .reasons) n 0)) (lt-ltb n 256 l)
+required-is s n l =
+    below-is (λ n. ltb 0 (getD (typesOf s .reasons) n 0)) 256 n (omega arith) ∙ ap (λ b. b && ltb 0 (getD (typesOf s .reasons) n 0)) (lt-ltb n 256 l)

@@ -72,7 +72,9 @@ started G n (suc k) l = go (startTo G k (replicate n 0)) (started G n k (omega a
 pub tiers-other : (G : Graph) (o : List ℕ) (p : ℕ) (t : List ℕ) (x : ℕ) → ((q : ℕ) → q < p → getD o q 0 ≢ x) → getD (tiersTo G o p t) x 0 ≡ getD t x 0
 unfolding tiersTo
 tiers-other G o zero t x h = refl
-tiers-other G o (suc p) t x h = getD-set-other (tiersTo G o p t) (getD o p 0) x (tierFrom G (tiersTo G o p t) (getD o p 0)) 0 (λ e. h p (omega arith) (sym e)) ∙ tiers-other G o p t x (λ q l. h q (omega arith))
+tiers-other G o (suc p) t x h =
+    getD-set-other (tiersTo G o p t) (getD o p 0) x (tierFrom G (tiersTo G o p t) (getD o p 0)) 0 (λ e. h p (omega arith) (sym e))
+    ∙ tiers-other G o p t x (λ q l. h q (omega arith))
 
 pub length-tiers : (G : Graph) (o : List ℕ) (p : ℕ) (t : List ℕ) → length (tiersTo G o p t) ≡ length t
 unfolding tiersTo
@@ -183,7 +185,8 @@ module _ (G : Graph) (n : ℕ) (good : Good G n) (wide : Good G 255) where
   length-start zero t = refl
   length-start (suc k) t = go (G .struct k) (length-start k t)
     where
-      go : (b : Bool) → length (startTo G k t) ≡ length t → length {A = ℕ} (elim b as (λ _. List ℕ) [ true ↦ set (startTo G k t) k 255 | false ↦ startTo G k t ]) ≡ length t
+      go : (b : Bool) → length (startTo G k t) ≡ length t
+          → length {A = ℕ} (elim b as (λ _. List ℕ) [ true ↦ set (startTo G k t) k 255 | false ↦ startTo G k t ]) ≡ length t
       go true h = length-set (startTo G k t) k 255 ∙ h
       go false h = h
 

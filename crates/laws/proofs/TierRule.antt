@@ -29,7 +29,8 @@ up-other t ne = go (eq? t 255)
 
 module _ (G : Graph) (n : ℕ) (good : Good G n) (t : ℕ → ℕ) (right : (x : ℕ) → T (G .struct x) → t x ≡ tier G n x) where
   ends : (x : ℕ) → T (G .struct x) → (tier G n x ≡ 255) ↔ Endless G x
-  ends x sx = (λ e. loops-endless G x (tier-endless G n good x (good .below x sx) .0 e), λ e. tier-endless G n good x (good .below x sx) .1 (endless-loops G n good x (good .below x sx) e))
+  ends x sx =
+      (λ e. loops-endless G x (tier-endless G n good x (good .below x sx) .0 e), λ e. tier-endless G n good x (good .below x sx) .1 (endless-loops G n good x (good .below x sx) e))
 
   held : (x j : ℕ) → T (G .struct x) → (Endless G x → ⊥) → Edge G x j → up (tier G n j) ≡ min 254 (suc (t j))
   held x j sx no-end e =
@@ -37,18 +38,22 @@ module _ (G : Graph) (n : ℕ) (good : Good G n) (t : ℕ → ℕ) (right : (x :
       up-other (tier G n j) (λ q. let l = tier-endless G n good j (good .below j sj) .0 q in no-end (loops-endless G x (l .0, link e (l .1), l .2))) ∙ ap (λ k. min 254 (suc k)) (sym (right j sj))
 
   pub tier-rule : TierRule G t
-  tier-rule = record { endless = λ x sx. rw (right x sx) (ends x sx); bare = at-bare; no-less = at-less; no-more = λ x sx ne. at-more x sx ne (tops-at up (tier G n) G x) }
+  tier-rule =
+      record { endless = λ x sx. rw (right x sx) (ends x sx); bare = at-bare; no-less = at-less; no-more = λ x sx ne. at-more x sx ne (tops-at up (tier G n) G x) }
     where
       at-bare : (x : ℕ) → T (G .struct x) → ((j : ℕ) → Edge G x j → ⊥) → t x ≡ 0
       at-bare x sx none = right x sx ∙ tier-step G n good x (good .below x sx) ∙ go (tops-at up (tier G n) G x)
         where
-          go : (tops up (tier G n) G x (G .fields x) ≡ 0) ⊎ ((j : ℕ) × Edge G x j × (tops up (tier G n) G x (G .fields x) ≡ up (tier G n j))) → tops up (tier G n) G x (G .fields x) ≡ 0
+          go : (tops up (tier G n) G x (G .fields x) ≡ 0) ⊎ ((j : ℕ) × Edge G x j × (tops up (tier G n) G x (G .fields x) ≡ up (tier G n j)))
+              → tops up (tier G n) G x (G .fields x) ≡ 0
           go (inl e) = e
           go (inr r) = absurd (none (r .0) (r .1))
 
       at-less : (x j : ℕ) → T (G .struct x) → (Endless G x → ⊥) → Edge G x j → min 254 (suc (t j)) ≤ t x
       at-less x j sx ne e = rw (right x sx, tier-step G n good x (good .below x sx), ← held x j sx ne e) (tops-ge up (tier G n) G x j e)
 
-      at-more : (x : ℕ) → T (G .struct x) → (Endless G x → ⊥) → (tops up (tier G n) G x (G .fields x) ≡ 0) ⊎ ((j : ℕ) × Edge G x j × (tops up (tier G n) G x (G .fields x) ≡ up (tier G n j))) → (t x ≡ 0) ⊎ ((j : ℕ) × Edge G x j × (t x ≡ min 254 (suc (t j))))
+      at-more : (x : ℕ) → T (G .struct x) → (Endless G x → ⊥)
+          → (tops up (tier G n) G x (G .fields x) ≡ 0) ⊎ ((j : ℕ) × Edge G x j × (tops up (tier G n) G x (G .fields x) ≡ up (tier G n j)))
+          → (t x ≡ 0) ⊎ ((j : ℕ) × Edge G x j × (t x ≡ min 254 (suc (t j))))
       at-more x sx ne (inl e) = inl (right x sx ∙ tier-step G n good x (good .below x sx) ∙ e)
       at-more x sx ne (inr r) = inr (r .0, r .1, right x sx ∙ tier-step G n good x (good .below x sx) ∙ r .2 ∙ held x (r .0) sx ne (r .1))

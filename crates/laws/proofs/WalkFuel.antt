@@ -42,7 +42,8 @@ unfolding visitOut
 visit-shrinks G zero m i = stay m
 visit-shrinks G (suc f) m i = go (visit-shrinks G f) (eqb (getD m i 0) 0)
   where
-    go : Down (visitOut f G) → (b : Bool) → Shrinks m ((elim b as (λ _. Out) [ true ↦ finished i (fieldsOut (visitOut f G) G i (G .fields i) (set m i 1)) | false ↦ seen (eqb (getD m i 0) 2) m ]) .marks)
+    go : Down (visitOut f G) → (b : Bool)
+        → Shrinks m ((elim b as (λ _. Out) [ true ↦ finished i (fieldsOut (visitOut f G) G i (G .fields i) (set m i 1)) | false ↦ seen (eqb (getD m i 0) 2) m ]) .marks)
     go ih true =
         let p = fields-shrinks (visitOut f G) ih G i (G .fields i) (set m i 1) in
         let m′ = fieldsOut (visitOut f G) G i (G .fields i) (set m i 1) .marks in
@@ -54,15 +55,18 @@ module _ (G : Graph) (n : ℕ) (good : Good G n) where
   Agree : ℕ → (List ℕ → ℕ → Out) → (List ℕ → ℕ → Out) → Type 0
   Agree c v w = (m : List ℕ) (j : ℕ) → length m ≡ n → fresh m < c → j < n → v m j ≡ w m j
 
-  field-agree : (c : ℕ) (v w : List ℕ → ℕ → Out) → Agree c v w → (i k : ℕ) → k < G .fields i → (m : List ℕ) → length m ≡ n → fresh m < c → fieldOut v G i k m ≡ fieldOut w G i k m
+  field-agree : (c : ℕ) (v w : List ℕ → ℕ → Out) → Agree c v w → (i k : ℕ) → k < G .fields i → (m : List ℕ) → length m ≡ n → fresh m < c
+      → fieldOut v G i k m ≡ fieldOut w G i k m
   unfolding fieldOut Agree
   field-agree c v w a i k l m z h = go (eqb (G .to i k) 255) refl
     where
-      go : (b : Bool) → eqb (G .to i k) 255 ≡ b → _≡_ {A = Out} (elim b as (λ _. Out) [ true ↦ still m | false ↦ flagged i k (v m (G .to i k)) ]) (elim b as (λ _. Out) [ true ↦ still m | false ↦ flagged i k (w m (G .to i k)) ])
+      go : (b : Bool) → eqb (G .to i k) 255 ≡ b
+          → _≡_ {A = Out} (elim b as (λ _. Out) [ true ↦ still m | false ↦ flagged i k (v m (G .to i k)) ]) (elim b as (λ _. Out) [ true ↦ still m | false ↦ flagged i k (w m (G .to i k)) ])
       go true e = refl
       go false e = ap (flagged i k) (a m (G .to i k) z h (good .below (G .to i k) (good .closed i k l (eqb-false (G .to i k) 255 e))))
 
-  fields-agree : (c : ℕ) (v w : List ℕ → ℕ → Out) → Agree c v w → Down w → (i k : ℕ) → k ≤ G .fields i → (m : List ℕ) → length m ≡ n → fresh m < c → fieldsOut v G i k m ≡ fieldsOut w G i k m
+  fields-agree : (c : ℕ) (v w : List ℕ → ℕ → Out) → Agree c v w → Down w → (i k : ℕ) → k ≤ G .fields i → (m : List ℕ) → length m ≡ n → fresh m < c
+      → fieldsOut v G i k m ≡ fieldsOut w G i k m
   unfolding fieldsOut
   fields-agree c v w a d i zero l m z h = refl
   fields-agree c v w a d i (suc k) l m z h =

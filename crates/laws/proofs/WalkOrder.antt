@@ -60,7 +60,8 @@ module _ (G : Graph) (n : ℕ) (good : Good G n) where
 
   -- T2: every struct item stands after all that it holds exactly where no chain returns to its start
   pub in-order : InOrder G (sortOut G n .sorted) ↔ (Cycle G → ⊥)
-  in-order = (λ h c. omega (arith, chain-earlier (sortOut G n .sorted) h (c .1) (chain-end (c .1))), λ acyclic i j si e. go acyclic i j e (edge-or-back i j si e))
+  in-order =
+      (λ h c. omega (arith, chain-earlier (sortOut G n .sorted) h (c .1) (chain-end (c .1))), λ acyclic i j si e. go acyclic i j e (edge-or-back i j si e))
     where
       go : (Cycle G → ⊥) → (i j : ℕ) → Edge G i j → Earlier (sortOut G n .sorted) j i ⊎ Chain G j i → Earlier (sortOut G n .sorted) j i
       go acyclic i j e (inl q) = q

@@ -136,7 +136,8 @@ module _ (s : List ℕ) where
         let a = row-is r (p .the-rows .start r) (rw z at (p .the-rows .body r l)) in
         rw (start-row r (omega arith), start-row (suc r) l) a
 
-    item-there : (i : ℕ) → i < items s → (offset s (rows s + i) ≡ start-of (rows s + i)) × (item s (rows s) (start-of (rows s + i)) ≡ Next (start-of (suc (rows s + i))))
+    item-there : (i : ℕ) → i < items s
+        → (offset s (rows s + i) ≡ start-of (rows s + i)) × (item s (rows s) (start-of (rows s + i)) ≡ Next (start-of (suc (rows s + i))))
     item-there i l =
         let z : 0 + i ≡ i = omega arith in
         let y : suc (rows s + i) ≡ rows s + suc i = omega arith in

@@ -163,7 +163,8 @@ module _ (s : List ℕ) where
     pub visit-old : (f r : ℕ) (all : List ℕ) → r < rows s → ClosedBelow (suc r) all → seen all r ≡ true → In r all → visit s f all r ≡ all
     unfolding visit
     visit-old zero r all t c e h = refl
-    visit-old (suc f) r all t c e h = rw (enter-old s all r e) (fold-none (visit s f) (shown s r) all (λ x i. go x (falls r t x i) (c r (omega arith) h x i) (visit-old f x all)))
+    visit-old (suc f) r all t c e h =
+        rw (enter-old s all r e) (fold-none (visit s f) (shown s r) all (λ x i. go x (falls r t x i) (c r (omega arith) h x i) (visit-old f x all)))
       where
         go : (x : ℕ) → x < r → In x all → (x < rows s → ClosedBelow (suc x) all → seen all x ≡ true → In x all → visit s f all x ≡ all) → visit s f all x ≡ all
         go x d i ih = by (seen? all x)
@@ -185,7 +186,8 @@ module _ (s : List ℕ) where
             by (inl i) = in-left y all (r ∷ []) (c x (omega arith) i y k)
             by (inr i) = absurd (let q = in-one x r i in omega arith)
 
-        go : Seen? all r → ((x : ℕ) (a : List ℕ) → x < f → x < rows s → ClosedBelow (suc x) a → visit s f a x ≡ skipVisit s f a x) → visit s (suc f) all r ≡ skipVisit s (suc f) all r
+        go : Seen? all r → ((x : ℕ) (a : List ℕ) → x < f → x < rows s → ClosedBelow (suc x) a → visit s f a x ≡ skipVisit s f a x)
+            → visit s (suc f) all r ≡ skipVisit s (suc f) all r
         go (old e i) ih = rw (e, skipVisit) (visit-old (suc f) r all t c e i)
         go (new e z) ih =
             rw (e, skipVisit, enter-new s all r e)
@@ -218,7 +220,8 @@ module _ (s : List ℕ) where
 pub visit-once : (s : List ℕ) (f r : ℕ) (all : List ℕ) → ((x : ℕ) → count x all ≤ 1) → (x : ℕ) → count x (visit s f all r) ≤ 1
 unfolding visit
 visit-once s zero r all h = h
-visit-once s (suc f) r all h = fold-keeps (visit s f) (λ a. (x : ℕ) → count x a ≤ 1) (shown s r) (enter s all r) (enter-once s all r h) (λ a y _ k. visit-once s f y a k)
+visit-once s (suc f) r all h =
+    fold-keeps (visit s f) (λ a. (x : ℕ) → count x a ≤ 1) (shown s r) (enter s all r) (enter-once s all r h) (λ a y _ k. visit-once s f y a k)
 
 pub visit-kept : (s : List ℕ) (f r : ℕ) (all : List ℕ) (x : ℕ) → In x all → In x (visit s f all r)
 unfolding visit
