@@ -71,7 +71,13 @@ module _ (S : Type 0) (has : S → ℕ → Bool) (add : S → ℕ → S) (g : Lo
       where
         nothing : (b : Bool) → b ≡ false → Looked s s b
         nothing b e =
-            record { sound = λ q. q; less = omega arith; fewer = λ e′. let z : _≡_ {A = Bool} true false = cc in let w : _≡_ {A = ℕ} 0 1 = cc in absurd (omega arith); idle = λ _. refl; okay = o }
+            record {
+              sound = λ q. q;
+              less = omega arith;
+              fewer = λ e′. let z : _≡_ {A = Bool} true false = cc in let w : _≡_ {A = ℕ} 0 1 = cc in absurd (omega arith);
+              idle = λ _. refl;
+              okay = o;
+            }
 
         of-look : (x : ℕ) → x < g .fields i → (u : Look) → g .look i x ≡ u → T (hits s u) → Sound s → Improper g i
         of-look x m fine e t q = absurd t
@@ -96,7 +102,13 @@ module _ (S : Type 0) (has : S → ℕ → Bool) (add : S → ℕ → S) (g : Lo
         go true h e e′ = nothing false refl
         go false true e e′ =
             let q : suc (free n (has (add s i))) ≡ free n (has s) = free-one n i (has s) (has (add s i)) has-other e (rw (has-add s i i o l, eqb-same i)) l in
-            record { sound = λ q′ x. at-sound e′ q′ x (eq? x i); less = omega arith; fewer = λ _. omega arith; idle = λ b. let w : _≡_ {A = ℕ} 0 1 = cc in absurd (omega arith); okay = ok-add s i o l }
+            record {
+              sound = λ q′ x. at-sound e′ q′ x (eq? x i);
+              less = omega arith;
+              fewer = λ _. omega arith;
+              idle = λ b. let w : _≡_ {A = ℕ} 0 1 = cc in absurd (omega arith);
+              okay = ok-add s i o l;
+            }
         go false false e e′ = nothing false refl
 
     pub passed : (k : ℕ) → k ≤ n → (s : S) → ok s → Looked s (passTo k s .0) (passTo k s .1)
@@ -109,9 +121,21 @@ module _ (S : Type 0) (has : S → ℕ → Bool) (add : S → ℕ → S) (g : Lo
       where
         join : (t u : S) (b c : Bool) → Looked s t b → Looked t u c → Looked s u (b || c)
         join t u true c p q =
-            record { sound = λ h. q .sound (p .sound h); less = omega (arith, p .less, q .less); fewer = λ _. omega (arith, p .fewer refl, q .less); idle = λ b. let w : _≡_ {A = ℕ} 0 1 = cc in absurd (omega arith); okay = q .okay }
+            record {
+              sound = λ h. q .sound (p .sound h);
+              less = omega (arith, p .less, q .less);
+              fewer = λ _. omega (arith, p .fewer refl, q .less);
+              idle = λ b. let w : _≡_ {A = ℕ} 0 1 = cc in absurd (omega arith);
+              okay = q .okay;
+            }
         join t u false c p q =
-            record { sound = λ h. q .sound (p .sound h); less = omega (arith, p .less, q .less); fewer = λ e. omega (arith, p .less, q .fewer e); idle = λ e. q .idle e ∙ p .idle refl; okay = q .okay }
+            record {
+              sound = λ h. q .sound (p .sound h);
+              less = omega (arith, p .less, q .less);
+              fewer = λ e. omega (arith, p .less, q .fewer e);
+              idle = λ e. q .idle e ∙ p .idle refl;
+              okay = q .okay;
+            }
 
     -- nothing is left to find
     Closed : S → Type 0

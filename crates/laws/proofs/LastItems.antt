@@ -148,7 +148,13 @@ module _ (s : List ℕ) where
     where
       go : (b : Bool) → is s Ident (field s i (e .place)) ≡ b → (if b then structOf (typesOf s) (rowName s (field s i (e .place))) else none) ≡ j → Holds s i j
       go true p q =
-          record { holder = si; number = e .place; is-field = e .is-field; plain = eqb-true (kind s (field s i (e .place))) 0 p; leads = of-last (rowName s (field s i (e .place))) j q (e .is-item) }
+          record {
+            holder = si;
+            number = e .place;
+            is-field = e .is-field;
+            plain = eqb-true (kind s (field s i (e .place))) 0 p;
+            leads = of-last (rowName s (field s i (e .place))) j q (e .is-item);
+          }
       go false p q = absurd (e .is-item (sym q))
 
   pub holds-edge : Fits s → (i j : ℕ) → Holds s i j → Edge (graphOf s (typesOf s)) i j
@@ -181,7 +187,11 @@ module _ (s : List ℕ) where
   -- over the items of the sheet, and over all items that a sheet can have
   pub good-for : Fits s → (n : ℕ) → items s ≤ n → n ≤ 255 → Good (graphOf s (typesOf s)) n
   good-for fits n least few =
-      record { few = few; below = λ x t. omega (arith, struct-is x .0 t .below); closed = λ i k l ne. struct-is (leadsTo s (typesOf s) i k) .1 (leads-struct i k ne) }
+      record {
+        few = few;
+        below = λ x t. omega (arith, struct-is x .0 t .below);
+        closed = λ i k l ne. struct-is (leadsTo s (typesOf s) i k) .1 (leads-struct i k ne);
+      }
 
   pub good : Fits s → Good (graphOf s (typesOf s)) 255
   good fits = good-for fits 255 (fits .few) (omega arith)

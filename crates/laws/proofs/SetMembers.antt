@@ -142,9 +142,19 @@ module _ (s : List ℕ) (fits : Fits s) where
 
       from : Borne s CxxType n ⊎ Borne s TypeAlias n → Member s (entersCxx s) (items s) n
       from (inl b) =
-          record { item = b .item; below = b .below; passes = or-left (itemIs s CxxType (b .item)) (itemIs s TypeAlias (b .item)) (kind-is CxxType (b .item) .1 (b .is-kind)); bears = b .bears }
+          record {
+            item = b .item;
+            below = b .below;
+            passes = or-left (itemIs s CxxType (b .item)) (itemIs s TypeAlias (b .item)) (kind-is CxxType (b .item) .1 (b .is-kind));
+            bears = b .bears;
+          }
       from (inr b) =
-          record { item = b .item; below = b .below; passes = or-right (itemIs s CxxType (b .item)) (itemIs s TypeAlias (b .item)) (kind-is TypeAlias (b .item) .1 (b .is-kind)); bears = b .bears }
+          record {
+            item = b .item;
+            below = b .below;
+            passes = or-right (itemIs s CxxType (b .item)) (itemIs s TypeAlias (b .item)) (kind-is TypeAlias (b .item) .1 (b .is-kind));
+            bears = b .bears;
+          }
 
   pub untrusted-are : (n : ℕ) → T (typesOf s .untrusted ∋ n) ↔ Member s (entersUntrusted s) (items s) n
   unfolding typesOf entersUntrusted

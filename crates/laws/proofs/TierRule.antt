@@ -39,7 +39,12 @@ module _ (G : Graph) (n : ℕ) (good : Good G n) (t : ℕ → ℕ) (right : (x :
 
   pub tier-rule : TierRule G t
   tier-rule =
-      record { endless = λ x sx. rw (right x sx) (ends x sx); bare = at-bare; no-less = at-less; no-more = λ x sx ne. at-more x sx ne (tops-at up (tier G n) G x) }
+      record {
+        endless = λ x sx. rw (right x sx) (ends x sx);
+        bare = at-bare;
+        no-less = at-less;
+        no-more = λ x sx ne. at-more x sx ne (tops-at up (tier G n) G x);
+      }
     where
       at-bare : (x : ℕ) → T (G .struct x) → ((j : ℕ) → Edge G x j → ⊥) → t x ≡ 0
       at-bare x sx none = right x sx ∙ tier-step G n good x (good .below x sx) ∙ go (tops-at up (tier G n) G x)

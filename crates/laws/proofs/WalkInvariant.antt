@@ -138,12 +138,22 @@ module _ (G : Graph) (n : ℕ) where
         go : (b : Bool) → eqb (G .to i k) 255 ≡ b
             → Fielded G n (λ k′. k′ ≡ k) m o c i (elim b as (λ _. Out) [ true ↦ still m | false ↦ flagged i k (v m (G .to i k)) ])
         go true e =
-            record { post = stay-after m o c (still m) refl refl refl h; here = λ k′ p ne. absurd (nowhere k′ p ne); done = λ _ k′ p ne. absurd (nowhere k′ p ne); fails = λ b. let z : _≡_ {A = ℕ} 0 1 = cc in absurd (omega arith) }
+            record {
+              post = stay-after m o c (still m) refl refl refl h;
+              here = λ k′ p ne. absurd (nowhere k′ p ne);
+              done = λ _ k′ p ne. absurd (nowhere k′ p ne);
+              fails = λ b. let z : _≡_ {A = ℕ} 0 1 = cc in absurd (omega arith);
+            }
           where
             nowhere : (k′ : ℕ) → k′ ≡ k → G .to i k′ ≢ 255 → ⊥
             nowhere k′ p ne = ne (ap (G .to i) p ∙ eqb-true (G .to i k) 255 e)
         go false e =
-            record { post = blamed m o c i (G .to i k) k a w; here = λ k′ p ne. rw p (w .here); done = λ z k′ p ne. rw p (met z (a .ok) refl); fails = w .fails }
+            record {
+              post = blamed m o c i (G .to i k) k a w;
+              here = λ k′ p ne. rw p (w .here);
+              done = λ z k′ p ne. rw p (met z (a .ok) refl);
+              fails = w .fails;
+            }
           where
             a : Out
             a = v m (G .to i k)
@@ -167,7 +177,12 @@ module _ (G : Graph) (n : ℕ) where
         → ((x : ℕ) → getD m x 0 ≡ 1 → (j : ℕ) → Edge G i j → Chain G x j) → Fielded G n (λ k′. k′ < k) m o c i (fieldsOut v G i k m)
     unfolding fieldsOut
     fields zero l m o c h less reach =
-        record { post = stay-after m o c (still m) refl refl refl h; here = λ k′ p ne. absurd (omega arith); done = λ _ k′ p ne. absurd (omega arith); fails = λ b. let z : _≡_ {A = ℕ} 0 1 = cc in absurd (omega arith) }
+        record {
+          post = stay-after m o c (still m) refl refl refl h;
+          here = λ k′ p ne. absurd (omega arith);
+          done = λ _ k′ p ne. absurd (omega arith);
+          fails = λ b. let z : _≡_ {A = ℕ} 0 1 = cc in absurd (omega arith);
+        }
     fields (suc k) l m o c h less reach = both (fieldsOut v G i k m) (fields k (omega arith) m o c h less reach)
       where
         both : (a : Out) → Fielded G n (λ k′. k′ < k) m o c i a → Fielded G n (λ k′. k′ < suc k) m o c i (join a (fieldOut v G i k (a .marks)))
@@ -177,7 +192,12 @@ module _ (G : Graph) (n : ℕ) where
             add : (b : Out) → Fielded G n (λ k′. k′ ≡ k) (a .marks) (o ++ a .sorted) (c + length (a .errors)) i b
                 → Fielded G n (λ k′. k′ < suc k) m o c i (join a b)
             add b q =
-                record { post = then m o c a b (p .post) (q .post); here = λ k′ s ne. at-here k′ s ne (eq? k′ k); done = λ z k′ s ne. at-done z k′ s ne (eq? k′ k); fails = and-false (a .ok) (b .ok) (p .fails) (q .fails) }
+                record {
+                  post = then m o c a b (p .post) (q .post);
+                  here = λ k′ s ne. at-here k′ s ne (eq? k′ k);
+                  done = λ z k′ s ne. at-done z k′ s ne (eq? k′ k);
+                  fails = and-false (a .ok) (b .ok) (p .fails) (q .fails);
+                }
               where
                 at-here : (k′ : ℕ) → k′ < suc k → G .to i k′ ≢ 255 → Eq? k′ k → 0 < getD (b .marks) (G .to i k′) 0
                 at-here k′ s ne (same _ e) = q .here k′ e ne
@@ -195,7 +215,15 @@ module _ (G : Graph) (n : ℕ) where
     -- an item that is not met yet is marked
     pushed : (m o : List ℕ) (c i : ℕ) → Inv G n m o c → getD m i 0 ≡ 0 → T (G .struct i) → Inv G n (set m i 1) o c
     pushed m o c i h z t =
-        record { size = length-set m i 1 ∙ h .size; kinds = λ x. at-kinds x (eq? x i); listed = λ x. at-listed x (eq? x i); structs = λ x. at-struct x (eq? x i); edges = h .edges; clean = h .clean; dirty = h .dirty }
+        record {
+          size = length-set m i 1 ∙ h .size;
+          kinds = λ x. at-kinds x (eq? x i);
+          listed = λ x. at-listed x (eq? x i);
+          structs = λ x. at-struct x (eq? x i);
+          edges = h .edges;
+          clean = h .clean;
+          dirty = h .dirty;
+        }
       where
         fits : i < length m
         fits = omega (arith, h .size, good .below i t)
@@ -249,7 +277,15 @@ module _ (G : Graph) (n : ℕ) where
 
       popped : Inv G n (set m′ i 2) (o′ ++ (i ∷ [])) c′
       popped =
-          record { size = length-set m′ i 2 ∙ p .inv .size; kinds = λ x. at-kinds x (eq? x i); listed = λ x. at-listed x (eq? x i); structs = λ x. at-struct x (eq? x i); edges = λ x y. at-edges x y (eq? x i); clean = λ d x y. at-clean d x y (eq? x i); dirty = p .inv .dirty }
+          record {
+            size = length-set m′ i 2 ∙ p .inv .size;
+            kinds = λ x. at-kinds x (eq? x i);
+            listed = λ x. at-listed x (eq? x i);
+            structs = λ x. at-struct x (eq? x i);
+            edges = λ x y. at-edges x y (eq? x i);
+            clean = λ d x y. at-clean d x y (eq? x i);
+            dirty = p .inv .dirty;
+          }
         where
           at-kinds : (x : ℕ) → Eq? x i → getD (set m′ i 2) x 0 ≤ 2
           at-kinds x (same _ s) = rw (s, getD-set-same m′ i 2 0 fits′) (omega arith)
@@ -319,9 +355,19 @@ module _ (G : Graph) (n : ℕ) where
             let q : suc (fresh (set m i 1)) ≡ fresh m = fresh-set m i 0 (omega (arith, h .size, good .below i si)) e in
             after (fieldsOut (visitOut f G) G i (G .fields i) (set m i 1)) (fields good f (visitOut f G) ih i (G .fields i) (omega arith) (set m i 1) o c (pushed m o c i h e si) (omega arith) (λ x s j d. onto x j d (eq? x i) s)) e
         go ih (suc zero) e =
-            record { post = stay-after m o c (seen false m) refl refl refl h; here = omega arith; done = λ b. let w : _≡_ {A = ℕ} 0 1 = cc in absurd (omega arith); fails = λ _. (i, reach i e) }
+            record {
+              post = stay-after m o c (seen false m) refl refl refl h;
+              here = omega arith;
+              done = λ b. let w : _≡_ {A = ℕ} 0 1 = cc in absurd (omega arith);
+              fails = λ _. (i, reach i e);
+            }
         go ih (suc (suc zero)) e =
-            record { post = stay-after m o c (seen true m) refl refl refl h; here = omega arith; done = λ _. omega arith; fails = λ b. let w : _≡_ {A = ℕ} 0 1 = cc in absurd (omega arith) }
+            record {
+              post = stay-after m o c (seen true m) refl refl refl h;
+              here = omega arith;
+              done = λ _. omega arith;
+              fails = λ b. let w : _≡_ {A = ℕ} 0 1 = cc in absurd (omega arith);
+            }
         go ih (suc (suc (suc k))) e = absurd (omega (arith, h .kinds i))
 
     zeros : (k x : ℕ) → count 0 [] ≡ getD (replicate k 0) x 0
@@ -331,19 +377,35 @@ module _ (G : Graph) (n : ℕ) where
 
     started : Inv G n (replicate n 0) [] 0
     started =
-        record { size = length-replicate n 0; kinds = λ x. omega (arith, zeros n x); listed = λ x. omega (arith, zeros n x); structs = λ x m. absurd (omega (arith, zeros n x)); edges = λ x y m. absurd (omega arith); clean = λ _ x y m. absurd (omega arith); dirty = λ m. absurd (omega arith) }
+        record {
+          size = length-replicate n 0;
+          kinds = λ x. omega (arith, zeros n x);
+          listed = λ x. omega (arith, zeros n x);
+          structs = λ x m. absurd (omega (arith, zeros n x));
+          edges = λ x y m. absurd (omega arith);
+          clean = λ _ x y m. absurd (omega arith);
+          dirty = λ m. absurd (omega arith);
+        }
 
     -- the first k items
     pub walked : (f : ℕ) → n < f → (k : ℕ) → Walked G n k (itemsOut f G k (replicate n 0))
     unfolding itemsOut itemOut
     walked f l zero =
-        record { post = stay-after (replicate n 0) [] 0 (still (replicate n 0)) refl refl refl started; ends = λ x. inl (sym (zeros n x)); all = λ x q. absurd (omega arith) }
+        record {
+          post = stay-after (replicate n 0) [] 0 (still (replicate n 0)) refl refl refl started;
+          ends = λ x. inl (sym (zeros n x));
+          all = λ x q. absurd (omega arith);
+        }
     walked f l (suc k) = both (itemsOut f G k (replicate n 0)) (walked f l k) (G .struct k) refl
       where
         both : (a : Out) → Walked G n k a → (b : Bool) → G .struct k ≡ b
             → Walked G n (suc k) (join a (elim b as (λ _. Out) [ true ↦ visitOut f G (a .marks) k | false ↦ still (a .marks) ]))
         both a w false e =
-            record { post = then (replicate n 0) [] 0 a (still (a .marks)) (w .post) (stay-after (a .marks) (a .sorted) (0 + length (a .errors)) (still (a .marks)) refl refl refl (w .post .inv)); ends = w .ends; all = λ x q. at-all x q (eq? x k) }
+            record {
+              post = then (replicate n 0) [] 0 a (still (a .marks)) (w .post) (stay-after (a .marks) (a .sorted) (0 + length (a .errors)) (still (a .marks)) refl refl refl (w .post .inv));
+              ends = w .ends;
+              all = λ x q. at-all x q (eq? x k);
+            }
           where
             at-all : (x : ℕ) → x < suc k → Eq? x k → T (G .struct x) → getD (a .marks) x 0 ≡ 2
             at-all x q (same _ s) t = absurd (subst T e (subst (λ (j : ℕ). T (G .struct j)) s t))
@@ -357,7 +419,11 @@ module _ (G : Graph) (n : ℕ) where
 
             add : (b : Out) → Visited G n (a .marks) (a .sorted) (0 + length (a .errors)) k b → Walked G n (suc k) (join a b)
             add b v =
-                record { post = then (replicate n 0) [] 0 a b (w .post) (v .post); ends = λ x. at-ends x (w .ends x) (v .post .moved x); all = λ x q. at-all x q (eq? x k) }
+                record {
+                  post = then (replicate n 0) [] 0 a b (w .post) (v .post);
+                  ends = λ x. at-ends x (w .ends x) (v .post .moved x);
+                  all = λ x q. at-all x q (eq? x k);
+                }
               where
                 at-ends : (x : ℕ) → (getD (a .marks) x 0 ≡ 0) ⊎ (getD (a .marks) x 0 ≡ 2) → Moved (a .marks) (b .marks) x
                     → (getD (b .marks) x 0 ≡ 0) ⊎ (getD (b .marks) x 0 ≡ 2)

@@ -259,7 +259,14 @@ module _ (s : List ℕ) (acc : Accepted s) (i : ℕ) (l : i < items s) where
 
   pub item-of : ItemOf s i
   item-of =
-      record { known = item-steps .0; as-type = type-is; as-struct = struct-is; as-enum = enum-is; as-function = λ t. function-is (function-kinds t); as-impl = impl-is }
+      record {
+        known = item-steps .0;
+        as-type = type-is;
+        as-struct = struct-is;
+        as-enum = enum-is;
+        as-function = λ t. function-is (function-kinds t);
+        as-impl = impl-is;
+      }
 
   -- ## How long it is
 

@@ -71,7 +71,9 @@ module _ (s : List ℕ) where
   pub orNone-reads : (n : ℕ) → Reads (orNone s n) (λ at q. RowOrNone n (pairAt s at) × (q ≡ at + 2))
   unfolding orNone
   orNone-reads n =
-      record { of = λ at h. let a = one-reads 7 (λ v. eqb v 65535 || ltb v n) .of at h in (by (pairAt s at) (or-is (eqb (pairAt s at) 65535) (ltb (pairAt s at) n) (a .0)), a .1) }
+      record {
+        of = λ at h. let a = one-reads 7 (λ v. eqb v 65535 || ltb v n) .of at h in (by (pairAt s at) (or-is (eqb (pairAt s at) 65535) (ltb (pairAt s at) n) (a .0)), a .1);
+      }
     where
       by : (v : ℕ) → (eqb v 65535 ≡ true) ⊎ (ltb v n ≡ true) → RowOrNone n v
       by v (inl e) = inl (eqb-true v 65535 e)
