@@ -117,7 +117,8 @@ module _ (s : List ℕ) (acc : Accepted s) (t : Types) where
 
   mut-in : (p q : ℕ → Bool) (r : ℕ) → r < rows s → ((x : ℕ) → x < r → p x ≡ q x) → mutBy s t p r ≡ mutBy s t q r
   mut-in p q r l h =
-      ap (λ (b : Bool). elim (is-lifetime-mut s t r) as (λ _. Bool) [ true ↦ true | false ↦ b ]) (any-same p q (shown s r) (λ x i. h x (shown-falls s acc r l x i)))
+      ap (λ (b : Bool). elim (is-lifetime-mut s t r) as (λ _. Bool) [ true ↦ true | false ↦ b ])
+      (any-same p q (shown s r) (λ x i. h x (shown-falls s acc r l x i)))
 
   pub mut-fuel : (f g r : ℕ) → r < f → r < g → r < rows s → find-lifetime-mut s t f r ≡ find-lifetime-mut s t g r
   unfolding find-lifetime-mut

@@ -128,7 +128,8 @@ module _ (s : List ℕ) where
       go : (r : ℕ) → r ≡ i → Last s (entersStructs s) (items s) n r → LastStruct s n i
       go r q (no-one f) = absurd (ne (sym q))
       go r q (last l t b f) =
-          subst (λ (x : ℕ). LastStruct s n x) q (record { struct = record { below = l; is-struct = enters r t }; bears = b; last = λ j h d. f j (h .below) (enters-struct j (h .is-struct)) d })
+          subst (λ (x : ℕ). LastStruct s n x) q
+          (record { struct = record { below = l; is-struct = enters r t }; bears = b; last = λ j h d. f j (h .below) (enters-struct j (h .is-struct)) d })
 
   pub last-of : Fits s → (n i : ℕ) → LastStruct s n i → structOf (typesOf s) n ≡ i
   last-of fits n i h = go (structOf (typesOf s) n) refl (struct-of n (subst (λ (x : ℕ). x < 256) (h .bears) (struct-named s fits i (h .struct))))

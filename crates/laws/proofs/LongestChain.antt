@@ -78,7 +78,8 @@ module _ (h f : ℕ → ℕ) (G : Graph) (i : ℕ) where
 
   pub tops-ge : (j : ℕ) → Edge G i j → h (f j) ≤ tops h f G i (G .fields i)
   tops-ge j e =
-      subst (λ (x : ℕ). h (f x) ≤ tops h f G i (G .fields i)) (e .leads) (field-ge (G .fields i) (e .place) (e .is-field) (λ q. e .is-item (sym (e .leads) ∙ q)))
+      subst (λ (x : ℕ). h (f x) ≤ tops h f G i (G .fields i)) (e .leads)
+      (field-ge (G .fields i) (e .place) (e .is-field) (λ q. e .is-item (sym (e .leads) ∙ q)))
 
   pub tops-at : (tops h f G i (G .fields i) ≡ 0) ⊎ ((j : ℕ) × Edge G i j × (tops h f G i (G .fields i) ≡ h (f j)))
   tops-at = go (field-at (G .fields i))

@@ -239,9 +239,9 @@ module _ (s : List ℕ) (t : Types) where
   rows-say : Tables Says rowTable (K.type-checks s t)
   unfolding rowTable K.type-checks
   rows-say =
-      check-type-ident s t then check-type-box s t then check-type-rust-vec s t then check-type-unique-ptr s t then check-type-shared-ptr s t then check-type-weak-ptr s t
-      then check-type-cxx-vector s t then check-type-ref s t then check-type-ptr s t then no-check s t then check-type-slice-ref s t then check-type-array s t then check-type-fn s t
-      then no-check s t then end
+      check-type-ident s t then check-type-box s t then check-type-rust-vec s t then check-type-unique-ptr s t then check-type-shared-ptr s t
+      then check-type-weak-ptr s t then check-type-cxx-vector s t then check-type-ref s t then check-type-ptr s t then no-check s t
+      then check-type-slice-ref s t then check-type-array s t then check-type-fn s t then no-check s t then end
 
   pub row-messages : (r : ℕ) → Every (rowMessages (kind s r)) (K.check-type s t r)
   unfolding rowMessages K.check-type

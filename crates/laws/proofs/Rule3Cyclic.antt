@@ -94,7 +94,7 @@ module _ (s : List ℕ) (fits : Fits s) where
   pub cyclic-is : Some Two (report s) ↔ R.Cycle s
   unfolding report reportOf walkOf
   cyclic-is = (
-    λ h. cycle-is s fits .0 (found errors refl (middle (duplicates s) errors rows itemised (every-some (between 1 1) (duplicate-messages s)) (every-some (between 3 26) (rows-messages s t (t .all))) (every-some (between 27 58) (items-messages s t (items s))) h)),
+    λ h. cycle-is s fits .0 (found errors refl (middle (duplicates s) errors rows itemised no-duplicate no-row no-item h)),
     λ c. outer (duplicates s) errors rows itemised (put c errors refl (walk-messages (graphOf s t) 255)),
   )
     where
@@ -106,3 +106,12 @@ module _ (s : List ℕ) (fits : Fits s) where
 
       itemised : List Diagnostic
       itemised = over (items s) (check-api s t)
+
+      no-duplicate : Some Two (duplicates s) → ⊥
+      no-duplicate = every-some (between 1 1) (duplicate-messages s)
+
+      no-row : Some Two rows → ⊥
+      no-row = every-some (between 3 26) (rows-messages s t (t .all))
+
+      no-item : Some Two itemised → ⊥
+      no-item = every-some (between 27 58) (items-messages s t (items s))

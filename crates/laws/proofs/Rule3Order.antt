@@ -93,7 +93,8 @@ module _ (s : List ℕ) (fits : Fits s) where
   unfolding places
   order-is =
       ap (λ n. take n (places sorted)) (sym places-are)
-      ∙ stored (replicate 255 0) sorted (let l : length sorted ≤ 255 = order-few G 255 (good s fits) in subst (λ (n : ℕ). length sorted ≤ n) (sym (length-replicate {A = ℕ} 255 0)) l)
+      ∙ stored (replicate 255 0) sorted
+      (let l : length sorted ≤ 255 = order-few G 255 (good s fits) in subst (λ (n : ℕ). length sorted ≤ n) (sym (length-replicate {A = ℕ} 255 0)) l)
     where
       stored : (l o : List ℕ) → length o ≤ length l → take (length o) (sets l 0 o) ≡ o
       stored l o h = rw (sets-eq o l 0 (omega arith)) (take-at o (drop (0 + length o) l) (length o) refl)

@@ -77,7 +77,8 @@ module _ (s : List ℕ) (p : ℕ → Bool) where
             where
               by : Eq? (m .item) k → T (eqb n (itemName s k) || w ∋ n)
               by (same _ d) =
-                  or-left (eqb n (itemName s k)) (w ∋ n) (subst (λ (x : ℕ). T (eqb x (itemName s k))) (ap (itemName s) (sym d) ∙ m .bears) (eqb-refl (itemName s k)))
+                  or-left (eqb n (itemName s k)) (w ∋ n)
+                  (subst (λ (x : ℕ). T (eqb x (itemName s k))) (ap (itemName s) (sym d) ∙ m .bears) (eqb-refl (itemName s k)))
               by (other _ d) =
                   let l : m .item < suc k = m .below in
                   or-right (eqb n (itemName s k)) (w ∋ n) (ih .1 (record { item = m .item; below = omega arith; passes = m .passes; bears = m .bears }))

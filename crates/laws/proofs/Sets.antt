@@ -98,7 +98,8 @@ size-sum (w ∷ ws) =
     let z : 64 * length (w ∷ ws) ≡ 64 + 64 * length ws = omega arith in
     rw (z, sum-split 64 (64 * length ws) (λ n. bit ((w ∷ ws) ∋ n)), size-sum ws)
     (ap (λ m. m + sumTo (64 * length ws) (λ n. bit (ws ∋ n))) (ones-sum 64 w ∙ sum-same 64 (bitOf w) (λ n. bit ((w ∷ ws) ∋ n)) (λ n l. in-first w n ws l))
-    ∙ ap (λ m. sumTo 64 (λ n. bit ((w ∷ ws) ∋ n)) + m) (sum-same (64 * length ws) (λ n. bit (ws ∋ n)) (λ n. bit ((w ∷ ws) ∋ (64 + n))) (λ n _. in-later w n ws)))
+    ∙ ap (λ m. sumTo 64 (λ n. bit ((w ∷ ws) ∋ n)) + m)
+    (sum-same (64 * length ws) (λ n. bit (ws ∋ n)) (λ n. bit ((w ∷ ws) ∋ (64 + n))) (λ n _. in-later w n ws)))
 
 -- how many names below 256 it has
 pub size-is : (w : Words) → IsSet w → size w ≡ sumTo 256 (λ n. bit (w ∋ n))

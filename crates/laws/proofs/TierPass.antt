@@ -156,7 +156,8 @@ module _ (G : Graph) (n : ℕ) (good : Good G n) where
       → getD (tiersTo G (sortOut G n .sorted) (length (sortOut G n .sorted)) t) x 0 ≡ tier G n x
   tiers-right t l h x sx =
       let o = sortOut G n .sorted in
-      steps o (each-once G n good) (edge-or-back G n good) (length o) (omega arith) t (record { size = l; given = λ y q. absurd (omega arith); waits = λ y sy _. h y sy })
+      steps o (each-once G n good) (edge-or-back G n good) (length o) (omega arith) t
+      (record { size = l; given = λ y q. absurd (omega arith); waits = λ y sy _. h y sy })
       .given x (place-lt o x (stands G n good x sx))
 
   -- every struct item stands after all that it holds exactly where no tier is 255

@@ -30,12 +30,14 @@ up-other t ne = go (eq? t 255)
 module _ (G : Graph) (n : ℕ) (good : Good G n) (t : ℕ → ℕ) (right : (x : ℕ) → T (G .struct x) → t x ≡ tier G n x) where
   ends : (x : ℕ) → T (G .struct x) → (tier G n x ≡ 255) ↔ Endless G x
   ends x sx =
-      (λ e. loops-endless G x (tier-endless G n good x (good .below x sx) .0 e), λ e. tier-endless G n good x (good .below x sx) .1 (endless-loops G n good x (good .below x sx) e))
+      let b = good .below x sx in
+      (λ e. loops-endless G x (tier-endless G n good x b .0 e), λ e. tier-endless G n good x b .1 (endless-loops G n good x b e))
 
   held : (x j : ℕ) → T (G .struct x) → (Endless G x → ⊥) → Edge G x j → up (tier G n j) ≡ min 254 (suc (t j))
   held x j sx no-end e =
       let sj = chain-end G n good (edge e) in
-      up-other (tier G n j) (λ q. let l = tier-endless G n good j (good .below j sj) .0 q in no-end (loops-endless G x (l .0, link e (l .1), l .2))) ∙ ap (λ k. min 254 (suc k)) (sym (right j sj))
+      up-other (tier G n j) (λ q. let l = tier-endless G n good j (good .below j sj) .0 q in no-end (loops-endless G x (l .0, link e (l .1), l .2)))
+      ∙ ap (λ k. min 254 (suc k)) (sym (right j sj))
 
   pub tier-rule : TierRule G t
   tier-rule =

@@ -100,7 +100,8 @@ module _ (G : Graph) (n : ℕ) (good : Good G n) where
           record {
             shrinks = record { size = s .size ∙ p .shrinks .size; less = omega (arith, s .less, p .shrinks .less) };
             counts =
-                joined a (itemOut f G k (a .marks)) (sumTo k (λ x. bit (G .struct x))) (bit (G .struct k)) (p .counts) (item-calls f k (a .marks) (p .shrinks .size ∙ length-replicate n 0) (omega (arith, p .shrinks .less, fresh-zeros n)));
+                joined a (itemOut f G k (a .marks)) (sumTo k (λ x. bit (G .struct x))) (bit (G .struct k)) (p .counts)
+                (item-calls f k (a .marks) (p .shrinks .size ∙ length-replicate n 0) (omega (arith, p .shrinks .less, fresh-zeros n)));
           }
 
   is-struct : (x : ℕ) → 0 < count x (sortOut G n .sorted) → T (G .struct x)
@@ -127,7 +128,8 @@ module _ (G : Graph) (n : ℕ) (good : Good G n) where
   pub order-length : length (sortOut G n .sorted) ≡ sumTo n (λ x. bit (G .struct x))
   order-length =
       let o = sortOut G n .sorted in
-      weight-one o ∙ weight-sum n (λ _. 1) o (λ x m. good .below x (is-struct x m)) ∙ sum-same n (λ x. count x o * 1) (λ x. bit (G .struct x)) (λ x _. omega (arith, each-once G n good x))
+      weight-one o ∙ weight-sum n (λ _. 1) o (λ x m. good .below x (is-struct x m)) ∙ sum-same n (λ x. count x o * 1) (λ x. bit (G .struct x))
+      (λ x _. omega (arith, each-once G n good x))
 
   pub order-few : length (sortOut G n .sorted) ≤ n
   order-few = omega (arith, order-length, sum-bits n (G .struct))

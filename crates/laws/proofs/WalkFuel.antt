@@ -71,7 +71,8 @@ module _ (G : Graph) (n : ℕ) (good : Good G n) where
   fields-agree c v w a d i zero l m z h = refl
   fields-agree c v w a d i (suc k) l m z h =
       let p = fields-shrinks w d G i k m in
-      rw (fields-agree c v w a d i k (omega arith) m z h) (ap (join (fieldsOut w G i k m)) (field-agree c v w a i k l (fieldsOut w G i k m .marks) (p .size ∙ z) (omega (arith, p .less))))
+      rw (fields-agree c v w a d i k (omega arith) m z h)
+      (ap (join (fieldsOut w G i k m)) (field-agree c v w a i k l (fieldsOut w G i k m .marks) (p .size ∙ z) (omega (arith, p .less))))
 
   pub fuel : (f h : ℕ) (m : List ℕ) (i : ℕ) → length m ≡ n → i < n → fresh m < f → fresh m < h → visitOut f G m i ≡ visitOut h G m i
   unfolding visitOut Agree

@@ -402,7 +402,8 @@ module _ (G : Graph) (n : ℕ) where
             → Walked G n (suc k) (join a (elim b as (λ _. Out) [ true ↦ visitOut f G (a .marks) k | false ↦ still (a .marks) ]))
         both a w false e =
             record {
-              post = then (replicate n 0) [] 0 a (still (a .marks)) (w .post) (stay-after (a .marks) (a .sorted) (0 + length (a .errors)) (still (a .marks)) refl refl refl (w .post .inv));
+              post = then (replicate n 0) [] 0 a (still (a .marks)) (w .post)
+                  (stay-after (a .marks) (a .sorted) (0 + length (a .errors)) (still (a .marks)) refl refl refl (w .post .inv));
               ends = w .ends;
               all = λ x q. at-all x q (eq? x k);
             }

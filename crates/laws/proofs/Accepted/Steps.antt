@@ -72,7 +72,8 @@ module _ (s : List ℕ) where
   unfolding orNone
   orNone-reads n =
       record {
-        of = λ at h. let a = one-reads 7 (λ v. eqb v 65535 || ltb v n) .of at h in (by (pairAt s at) (or-is (eqb (pairAt s at) 65535) (ltb (pairAt s at) n) (a .0)), a .1);
+        of = λ at h. let a = one-reads 7 (λ v. eqb v 65535 || ltb v n) .of at h in
+            (by (pairAt s at) (or-is (eqb (pairAt s at) 65535) (ltb (pairAt s at) n) (a .0)), a .1);
       }
     where
       by : (v : ℕ) → (eqb v 65535 ≡ true) ⊎ (ltb v n ≡ true) → RowOrNone n v

@@ -170,13 +170,12 @@ module _ (s : List ℕ) (fits : Fits s) where
   pub visits-are : walkOf s t .calls ≡ structsTo s (items s) + namedTo s (items s)
   unfolding walkOf work
   visits-are =
-      let each : ℕ → ℕ = λ x. leading G x (fieldCount s x) in
-      let a : sumTo 255 (λ x. bit (G .struct x) * suc (each x)) ≡ sumTo (items s) (λ x. bit (itemIs s Struct x) * suc (each x)) =
-      structs-sum (λ x. suc (each x)) in
-      let b : sumTo (items s) (λ x. bit (itemIs s Struct x) * suc (each x)) ≡ sumTo (items s) (λ x. bit (itemIs s Struct x) * 1 + bit (itemIs s Struct x) * each x) =
-      sum-same (items s) (λ x. bit (itemIs s Struct x) * suc (each x)) (λ x. bit (itemIs s Struct x) * 1 + bit (itemIs s Struct x) * each x) (λ x _. omega arith) in
-      let c = sum-add (items s) (λ x. bit (itemIs s Struct x) * 1) (λ x. bit (itemIs s Struct x) * each x) in
-      calls-are G 255 (good s fits) ∙ a ∙ b ∙ c ∙ omega (arith, structs-are-counted (items s), fields-are-counted (items s))
+      let structs : ℕ → ℕ = λ x. bit (itemIs s Struct x) * 1 in
+      let fields : ℕ → ℕ = λ x. bit (itemIs s Struct x) * leading G x (fieldCount s x) in
+      let all : ℕ → ℕ = λ x. bit (itemIs s Struct x) * suc (leading G x (fieldCount s x)) in
+      calls-are G 255 (good s fits) ∙ structs-sum (λ x. suc (leading G x (fieldCount s x)))
+      ∙ sum-same (items s) all (λ x. structs x + fields x) (λ x _. omega arith) ∙ sum-add (items s) structs fields
+      ∙ omega (arith, structs-are-counted (items s), fields-are-counted (items s))
 
   -- no more of message 2 than struct-named plain fields
   pub cyclic-few : length (walkOf s t .errors) ≤ namedTo s (items s)

@@ -57,7 +57,8 @@ module _ (s : List ℕ) where
         go : (q ≡ y) ⊎ In q l → (In q l → ((a : List ℕ) → In x (visit s f a q)) → In x (foldl (visit s f) (visit s f all y) l))
             → In x (foldl (visit s f) (visit s f all y) l)
         go (inl e) ih =
-            fold-grows s (visit s f) l (visit s f all y) (λ a z k. let m = b z (in-tail z y l k) in visit-grows s falls f z a (m .0) (m .1)) .0 .kept x (rw e at (h all))
+            fold-grows s (visit s f) l (visit s f all y) (λ a z k. let m = b z (in-tail z y l k) in visit-grows s falls f z a (m .0) (m .1)) .0 .kept x
+            (rw e at (h all))
         go (inr k) ih = ih k h
 
     -- and all of it does

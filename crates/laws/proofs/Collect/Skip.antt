@@ -202,7 +202,8 @@ module _ (s : List ℕ) where
     visit-fuel zero g r all l m t = absurd (omega arith)
     visit-fuel (suc f) zero r all l m t = absurd (omega arith)
     visit-fuel (suc f) (suc g) r all l m t =
-        fold-same (visit s f) (visit s g) (λ _. Unit) (shown s r) (enter s all r) tt (λ a x i _. let d = falls r t x i in visit-fuel f g x a (omega arith) (omega arith) (omega arith)) (λ _ _ _ _. tt)
+        fold-same (visit s f) (visit s g) (λ _. Unit) (shown s r) (enter s all r) tt
+        (λ a x i _. let d = falls r t x i in visit-fuel f g x a (omega arith) (omega arith) (omega arith)) (λ _ _ _ _. tt)
 
     pub skip-fuel : (f g r : ℕ) (all : List ℕ) → r < f → r < g → r < rows s → skipVisit s f all r ≡ skipVisit s g all r
     unfolding skipVisit
