@@ -10,10 +10,11 @@ use Rattle.rules.specs.declared.Diagnostic.{Diagnostic}
 use Rattle.rules.specs.Count.{count}
 use Rattle.rules.specs.Types.{typesOf}
 use Rattle.rules.specs.Order.{walkOf}
+use Rattle.rules.specs.Improper.{improperOf}
 use Rattle.rules.specs.declared.Answer.{Answer}
-use Rattle.rules.specs.Answer.{Outcome, accepted, refused, setsOf, readWith, filled, cleared, call}
+use Rattle.rules.specs.Answer.{Outcome, places, accepted, refused, setsOf, readWith, filled, cleared, call}
 use Rattle.rules.specs.Report.{report, reportOf}
-use Rattle.rules.specs.Rule3.{Rule3, Tiers3, Due}
+use Rattle.rules.specs.Rule3.{OrderRule, ImproperRule, Rule3, Tiers3, Due}
 use Rattle.laws.proofs.LastItems.{Fits}
 use Rattle.laws.proofs.Accepted.{fits, accepted-is}
 use Rattle.laws.proofs.Rule3Order.{order-is, once-is, none-is, after-is, tiers-are}
@@ -24,16 +25,22 @@ module _ (s : List ℕ) (sound : Fits s) where
   unfoldable pub answered : Answer
   answered = accepted s (typesOf s) (walkOf s (typesOf s)) (reportOf s (typesOf s) (walkOf s (typesOf s)))
 
-  pub rule3 : Rule3 s answered (report s)
-  unfolding answered accepted setsOf walkOf
-  rule3 =
+  pub order-rule : OrderRule s (places (walkOf s (typesOf s) .sorted)) (report s)
+  unfolding walkOf
+  order-rule =
       record {
         once = λ i si. ap (count i) (order-is s sound) ∙ once-is s sound i si;
         none-else = λ i ns. ap (count i) (order-is s sound) ∙ none-is s sound i ns;
         after = rw (order-is s sound) (after-is s sound);
         cyclic = cyclic-is s sound;
-        improper = improper-is s sound;
       }
+
+  pub improper-rule : ImproperRule s (improperOf s (typesOf s))
+  improper-rule = record { improper = improper-is s sound }
+
+  pub rule3 : Rule3 s answered (report s)
+  unfolding answered accepted setsOf
+  rule3 = record { order = order-rule; improper = improper-rule }
 
   pub tiers3 : Tiers3 s (answered .tiers)
   unfolding answered accepted walkOf

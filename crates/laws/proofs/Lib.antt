@@ -29,3 +29,5 @@ pub mod Fuel
 pub mod Tells
 pub mod Book
 pub mod Due
+pub mod Sound
+pub mod SmallReport

@@ -1,6 +1,6 @@
 -- Diagnostics, and lists of them: document 01, "Diagnostics".
 -- Assumes nothing: these are definitions.
-use Prim.Native.Nat.{ℕ}
+use Prim.Native.Nat.{ℕ, _<_}
 use mathlib.Core.List.{List, [], _∷_}
 use mathlib.Core.Bool.{Bool, true, false}
 use Rattle.rules.specs.declared.Place.{Place}
@@ -46,3 +46,20 @@ numbersOf (A i j) = i ∷ j ∷ []
 numbersOf (O i) = i ∷ []
 numbersOf (D i j) = i ∷ j ∷ []
 numbersOf (L i j) = i ∷ j ∷ []
+
+-- ## The numbers of a diagnostic fit the fields of its record
+
+abbrev pub SmallPlace : Place → Type 0
+SmallPlace (R r) = r < 65536
+SmallPlace (G r j) = (r < 65536) × (j < 256)
+SmallPlace (I i) = i < 256
+SmallPlace (F i j) = (i < 256) × (j < 256)
+SmallPlace (A i j) = (i < 256) × (j < 256)
+SmallPlace (O i) = i < 256
+SmallPlace (D i j) = (i < 256) × (j < 256)
+SmallPlace (L i j) = (i < 256) × (j < 256)
+
+pub record Small (d : Diagnostic) : Type 0 where
+  pub message : d .message < 256
+  pub place : SmallPlace (d .place)
+  pub detail : d .detail < 65536

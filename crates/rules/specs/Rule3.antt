@@ -96,18 +96,26 @@ module _ (s : List ℕ) where
     ends : {n i r : ℕ} (j : ℕ) → LastStruct n i → j < fieldCount s i → Through (field s i j) r → Bad r → Improper n
     goes : {n i r : ℕ} (j : ℕ) → LastStruct n i → j < fieldCount s i → Through (field s i j) r → kind s r ≡ Ident → 16 ≤ rowName s r → Improper (rowName s r) → Improper n
 
-  -- ## The rule, of an answer and a full report
+  -- ## The rule, in its two parts
 
-  pub record Rule3 (a : Answer) (full : List Diagnostic) : Type 0 where
-    -- the first places of the order, as many as there are struct items, hold each struct item once, and nothing else
-    pub once : (i : ℕ) → IsStruct i → count i (take (structsTo (items s)) (a .order)) ≡ 1
-    pub none-else : (i : ℕ) → (IsStruct i → ⊥) → count i (take (structsTo (items s)) (a .order)) ≡ 0
+  -- of an order, of which the first places count, as many as there are struct items; and of a report
+  pub record OrderRule (order : List ℕ) (report : List Diagnostic) : Type 0 where
+    -- they hold each struct item once, and nothing else
+    pub once : (i : ℕ) → IsStruct i → count i (take (structsTo (items s)) order) ≡ 1
+    pub none-else : (i : ℕ) → (IsStruct i → ⊥) → count i (take (structsTo (items s)) order) ≡ 0
     -- each stands after all that it holds exactly where no chain leads back to its start
-    pub after : ((i k : ℕ) → Holds i k → place (take (structsTo (items s)) (a .order)) k < place (take (structsTo (items s)) (a .order)) i) ↔ (Cycle → ⊥)
-    -- the full report has a cyclic diagnostic exactly where some chain does
-    pub cyclic : Some (λ (d : Diagnostic). d .message ≡ 2) full ↔ Cycle
-    -- the improper set
-    pub improper : (n : ℕ) → n < 256 → T (getD (a .sets) 7 (nameSet empty) .words ∋ n) ↔ Improper n
+    pub after : ((i k : ℕ) → Holds i k → place (take (structsTo (items s)) order) k < place (take (structsTo (items s)) order) i) ↔ (Cycle → ⊥)
+    -- there is a cyclic diagnostic exactly where some chain does
+    pub cyclic : Some (λ (d : Diagnostic). d .message ≡ 2) report ↔ Cycle
+
+  -- of a set of names
+  pub record ImproperRule (w : Words) : Type 0 where
+    pub improper : (n : ℕ) → n < 256 → T (w ∋ n) ↔ Improper n
+
+  -- of an answer and the full report
+  pub record Rule3 (a : Answer) (report : List Diagnostic) : Type 0 where
+    pub order : OrderRule (a .order) report
+    pub improper : ImproperRule (getD (a .sets) 7 (nameSet empty) .words)
 
   -- the rule of tiers, of a table of them: 255 where an endless chain starts, 0 without edges, else one more than the largest tier held, at most 254
   pub record Tiers3 (t : List ℕ) : Type 0 where

@@ -1,0 +1,3 @@
+mod Laws
+pub mod Inverse
+pub mod Window
