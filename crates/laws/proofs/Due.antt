@@ -1,23 +1,20 @@
 -- Rule 3 and the tier rule, of each call that is answered accepted.
 -- Assumes nothing.
-use Prim.Native.Nat.{ℕ, _<_}
-use mathlib.Core.Path.{_≡_, refl, sym, ap, _∙_, subst}
+use Prim.Native.Nat.{ℕ}
+use mathlib.Core.Path.{_≡_, ap, _∙_}
 use mathlib.Core.List.{List}
-use lib.ListN.{length, take, replicate}
-use lib.Seq.{sets}
+use lib.ListN.{length}
 use Rattle.rules.specs.declared.Step.{Step}
 use Rattle.rules.specs.declared.Step.the-variants.{Next, Refused}
 use Rattle.rules.specs.declared.Diagnostic.{Diagnostic}
-use Rattle.rules.specs.View.{items}
-use Rattle.rules.specs.Count.{count, place}
+use Rattle.rules.specs.Count.{count}
 use Rattle.rules.specs.Types.{typesOf}
-use Rattle.rules.specs.Walk.{sortOut}
-use Rattle.rules.specs.Order.{graphOf, walkOf}
+use Rattle.rules.specs.Order.{walkOf}
 use Rattle.rules.specs.Improper.{improperOf}
 use Rattle.rules.specs.declared.Answer.{Answer}
 use Rattle.rules.specs.Answer.{Outcome, places, accepted, refused, setsOf, readWith, filled, cleared, call}
 use Rattle.rules.specs.Report.{report, reportOf}
-use Rattle.rules.specs.Rule3.{OrderRule, ImproperRule, Rule3, Tiers3, structsTo, Due}
+use Rattle.rules.specs.Rule3.{OrderRule, ImproperRule, Rule3, Tiers3, Due}
 use Rattle.laws.proofs.LastItems.{Fits}
 use Rattle.laws.proofs.Accepted.{fits, accepted-is}
 use Rattle.laws.proofs.Rule3Order.{order-is, once-is, none-is, after-is, tiers-are}

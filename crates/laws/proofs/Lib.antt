@@ -18,6 +18,7 @@ pub mod NameSets
 pub mod Sets
 pub mod LastItems
 pub mod Rule3Order
+pub mod Messages
 pub mod Rule3Cyclic
 pub mod SetMembers
 pub mod Rule3Improper
@@ -25,6 +26,8 @@ pub mod Accepted
 pub mod Collect
 pub mod Bounds
 pub mod Fuel
+pub mod Tells
+pub mod Book
 pub mod Due
 pub mod Sound
 pub mod SmallReport

@@ -1,26 +1,24 @@
 -- Every diagnostic of an accepted sheet's full report has numbers that fit a record's fields (`small-report`): those of the checks by Sound.antt, message 1 by the number of items,
 -- message 2 because the walk blames only fields of struct items.
 -- Assumes nothing.
-use Prim.Native.Nat.{ℕ, zero, suc, _+_, _≤_, _<_}
-use mathlib.Core.Path.{_≡_, refl, sym, ap, _∙_, subst}
-use mathlib.Core.Logic.{_≢_}
+use Prim.Native.Nat.{ℕ, zero, suc, _≤_, _<_}
+use mathlib.Core.Path.{_≡_, refl, sym, subst}
 use mathlib.Core.Bool.{Bool, true, false}
-use mathlib.Core.List.{List, [], _∷_, _++_}
+use mathlib.Core.List.{List}
 use native.Mathlib.Omega.{arith}
 use native.Mathlib.Decide.{decLt}
 use lib.Dec.{T, eqb}
-use lib.ListN.{length, getD, set, replicate, length-set, List·getD-eq-default}
+use lib.ListN.{length, getD, set, replicate}
 use lib.Seq.{getD-set-same, getD-set-other, set-out}
 use Rattle.rules.specs.declared.Place.{Place}
 use Rattle.rules.specs.declared.Diagnostic.{Diagnostic}
-use Rattle.rules.specs.Base.{over}
-use Rattle.rules.specs.Diagnostics.{tell, when, SmallPlace, Small}
+use Rattle.rules.specs.Diagnostics.{tell, SmallPlace, Small}
 use Rattle.rules.specs.Format.{Accepted}
-use Rattle.rules.specs.View.{rows, items, itemName, fieldCount}
+use Rattle.rules.specs.View.{rows, items, itemName}
 use Rattle.rules.specs.Collect.{none, lastTo, duplicates}
 use Rattle.rules.specs.Types.{typesOf}
 use Rattle.rules.specs.Graph.{Graph}
-use Rattle.rules.specs.Walk.{Out, still, join, blame, flagged, seen, finished, fieldOut, fieldsOut, visitOut, itemOut, itemsOut, sortOut}
+use Rattle.rules.specs.Walk.{Out, still, blame, flagged, seen, finished, fieldOut, fieldsOut, visitOut, itemOut, itemsOut, sortOut}
 use Rattle.rules.specs.Order.{graphOf, walkOf}
 use Rattle.rules.specs.Report.{reportOf, report}
 use Rattle.laws.proofs.Chains.{Good}

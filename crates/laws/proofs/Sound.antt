@@ -1,26 +1,25 @@
 -- Each diagnostic of an accepted sheet's report has one of the messages 1 to 58, and numbers that fit a record's fields (`small-report`); those of the checks have 3 to 58
 -- (`rows-sound`, `items-sound`). By the forms of the definitions: a test, a branch, a loop.
 -- Assumes nothing.
-use Prim.Native.Nat.{ℕ, zero, suc, _+_, _≤_, _<_}
-use mathlib.Core.Path.{_≡_, refl, sym, ap, _∙_, subst}
-use mathlib.Core.Bool.{Bool, true, false, not, _&&_, _||_}
+use Prim.Native.Nat.{ℕ, zero, suc, _≤_, _<_}
+use mathlib.Core.Path.{_≡_, refl}
+use mathlib.Core.Bool.{Bool, true, false, not, _&&_}
 use mathlib.Core.List.{List, [], _∷_, _++_}
 use native.Mathlib.Omega.{arith}
-use lib.Dec.{T, ltb, leb, eqb, leb→le, ltb→lt}
-use lib.ListN.{length, getD, set, replicate}
+use lib.Dec.{T, ltb, leb, leb→le, ltb→lt}
+use lib.ListN.{getD}
 use Rattle.rules.specs.declared.Place.{Place}
-use Rattle.rules.specs.declared.Place.the-variants.{R, G, I, F, A, O, D, L}
 use Rattle.rules.specs.declared.Diagnostic.{Diagnostic}
 use Rattle.rules.specs.Base.{if_then_else_, over}
 use Rattle.rules.specs.Diagnostics.{tell, when, bit, SmallPlace, Small}
 use Rattle.rules.specs.Names.{_∋_}
 use Rattle.rules.specs.Format.{Accepted}
-use Rattle.rules.specs.View.{Ident, RustVec, Fn, Struct, Enum, Impl, rows, kind, is, rowName, inner, fnArgCount, items, itemKind, itemName, isType, isFunction, lifetimeCount, deriveCount, fieldCount, enumVariants, enumDefaults, argCount}
+use Rattle.rules.specs.View.{Ident, RustVec, Fn, rows, kind, is, rowName, inner, items, itemKind, itemName, argCount}
 use Rattle.rules.specs.Collect.{none as none-item}
 use Rattle.rules.specs.Types.{Types}
 use Rattle.rules.specs.Check as K
-use Rattle.laws.proofs.Accepted.Sheet.{SheetOf, sheet-of}
-use Rattle.laws.proofs.Accepted.Rows.{RowOf, row-of}
+use Rattle.laws.proofs.Accepted.Sheet.{sheet-of}
+use Rattle.laws.proofs.Accepted.Rows.{row-of}
 use Rattle.laws.proofs.Accepted.Items.{TypeOf, StructOf, EnumOf, FunctionOf, ImplOf, ItemOf, LifetimesOf, item-of, kind-type, kind-function}
 
 pub record Sound (d : Diagnostic) : Type 0 where
