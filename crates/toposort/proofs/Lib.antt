@@ -1,1 +1,3 @@
 pub mod Edges
+pub mod Parts
+pub mod Turns

@@ -31,4 +31,4 @@ Visits G b w i r b′ = (f : ℕ) → fresh (w .marks) < f → Done b w (visitOu
 -- what is left: a place in the order for each item that is not marked, and the number of a visit for each of its fields and for l more
 pub record Room (w : Walk) (l : ℕ) : Type 0 where
   pub len : w .len + fresh (w .marks) ≤ 255
-  pub calls : w .calls + 65536 * fresh (w .marks) + l ≤ 2 ^ 32
+  pub calls : w .calls + 64 * fresh (w .marks) + l ≤ 2 ^ 32

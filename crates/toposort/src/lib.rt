@@ -1,11 +1,11 @@
 // The order of the struct items, message 2, and the tiers: toposort.rs.
 ghost use mathlib.Core.Path.{_≡_};
-ghost use Prim.Native.Nat.{ℕ, _<_, _≤_, max};
+ghost use Prim.Native.Nat.{ℕ, max};
 ghost use mathlib.Core.Bool.{_&&_};
 ghost use lib.Dec.{ltb};
 ghost use Rattle.rules.specs.View.{Struct, items, itemIs, rest};
 ghost use Rattle.rules.specs.Types.{typesOf};
-ghost use Rattle.rules.specs.Format.{Accepted};
+ghost use Rattle.rules.specs.Rule3.{IsStruct};
 ghost use Rattle.rules.specs.Order.{graphOf, leadsTo};
 ghost use Rattle.toposort.specs.State.{Visits, Room};
 ghost use Rattle.toposort.specs.Post.{Collected, Sorts, Ordered, Tiered};
@@ -42,7 +42,7 @@ fn is_struct(s: &[u8], i: u8) -> bool
 // The item that a field leads to, or 255: field k of the struct whose fields stand at a place. A plain name leads to its last struct, atoms
 // included.
 fn leads_to(s: &[u8], last: &[u8; 256], at: u32, k: u16) -> u8
-    requires { ⌜ now last ≡ typesOf (now s) .lastStruct ⌝ }
+    requires { ⌜ Collected (now s) (now last) ⌝ }
     ensures { λ r. ⌜ ((i : ℕ) → at ≡ rest (now (s .entry)) i → r ≡ leadsTo (now (s .entry)) (typesOf (now (s .entry))) i k) ⌝ }
 {
     let row = items::entry(s, at, k);
@@ -58,8 +58,8 @@ fn leads_to(s: &[u8], last: &[u8; 256], at: u32, k: u16) -> u8
 // Visits item i: a depth-first walk. Meeting a struct that is still being visited fails, and so does every visit above it; each field whose visit
 // failed is reported.
 fn visit(s: &[u8], last: &[u8; 256], out: &mut [u64], w: Walk, i: u8) -> Walk
-    requires { ⌜ now last ≡ typesOf (now s) .lastStruct ⌝ }
-    requires { ⌜ (i < 255) × Room w 1 ⌝ }
+    requires { ⌜ Collected (now s) (now last) ⌝ }
+    requires { ⌜ IsStruct (now s) i × Room w 1 ⌝ }
     ensures { λ r. ⌜ Visits (graphOf (now (s .entry)) (typesOf (now (s .entry)))) (now (out .entry)) w i r (now (out .exit)) ⌝ }
 {
     let mut u = w;

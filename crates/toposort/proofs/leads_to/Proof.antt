@@ -34,20 +34,20 @@ returns : tie.Need-returns
 returns c i h =
     let a = c .before .before .before .before .before .before .before in
     let is = sym (c .before .before .before .before .is .ensures) ∙ c .before .before .before .if1 .taken in
-    leads-named (a .args .s .now) (a .args .last .now) (a .pre) _ (a .args .at) i (a .args .k) (c .before .before .before .before .before .entry .ensures) h _ is (c .before .before .row-name .ensures) (c .before .if2 .taken)
+    leads-named (a .args .s .now) (a .args .last .now) (a .pre .last) _ (a .args .at) i (a .args .k) (c .before .before .before .before .before .entry .ensures) h _ is (c .before .before .row-name .ensures) (c .before .if2 .taken)
 
 -- src/lib.rt:43:1
 returns-2 : tie.Need-returns-2
 returns-2 c i h =
     let a = c .before .before .before .before .before .before in
     let is = sym (c .before .before .before .is .ensures) ∙ c .before .before .if1 .taken in
-    leads-far (a .args .s .now) (a .args .last .now) (a .pre) _ (a .args .at) i (a .args .k) (c .before .before .before .before .entry .ensures) h _ is (c .before .row-name .ensures) (c .if2 .left)
+    leads-far (a .args .s .now) (a .args .last .now) (a .pre .last) _ (a .args .at) i (a .args .k) (c .before .before .before .before .entry .ensures) h _ is (c .before .row-name .ensures) (c .if2 .left)
 
 -- src/lib.rt:43:1
 returns-3 : tie.Need-returns-3
 returns-3 c i h =
     let a = c .before .before .before .before in
-    leads-nowhere (a .args .s .now) (a .args .last .now) (a .pre) _ (a .args .at) i (a .args .k) (c .before .before .entry .ensures) h (sym (c .before .is .ensures) ∙ c .if1 .left)
+    leads-nowhere (a .args .s .now) (a .args .last .now) (a .pre .last) _ (a .args .at) i (a .args .k) (c .before .before .entry .ensures) h (sym (c .before .is .ensures) ∙ c .if1 .left)
 
 pub leads-to-spec : {M : Type 1} → statement M
 leads-to-spec =
