@@ -3,10 +3,13 @@ ghost use mathlib.Core.Path.{_≡_};
 ghost use Prim.Native.Nat.{ℕ, max};
 ghost use mathlib.Core.Bool.{_&&_};
 ghost use lib.Dec.{ltb};
+ghost use lib.ListN.{replicate};
 ghost use Rattle.rules.specs.View.{Struct, items, itemIs, rest};
 ghost use Rattle.rules.specs.Types.{typesOf};
 ghost use Rattle.rules.specs.Rule3.{IsStruct};
 ghost use Rattle.rules.specs.Order.{graphOf, leadsTo};
+ghost use Rattle.laws.proofs.LongestChain.{up};
+ghost use Rattle.laws.proofs.TierPass.{tierFrom, startTo};
 ghost use Rattle.toposort.specs.State.{Visits, Room};
 ghost use Rattle.toposort.specs.Post.{Collected, Sorts, Ordered, Tiered};
 use errors::Errors;
@@ -129,4 +132,76 @@ pub fn sort(s: &[u8], last: &[u8; 256], cx: Errors, out: &mut [u64]) -> Sorted
         calls: w.calls,
         errors: cx,
     }
+}
+
+// What a field gives that leads to an item of tier t: one more, at most 254; and 255 for 255.
+fn above(t: u8) -> u8
+    ensures { λ r. ⌜ r ≡ up t ⌝ }
+{
+    if t == 255 {
+        return 255;
+    }
+    if t == 254 {
+        return 254;
+    }
+    t + 1
+}
+
+fn larger(a: u8, b: u8) -> u8
+    ensures { λ r. ⌜ r ≡ max a b ⌝ }
+{
+    if a < b { b } else { a }
+}
+
+// The tier of item i, by the tiers so far: the largest that its fields give.
+fn tier_from(s: &[u8], last: &[u8; 256], tiers: &[u8; 255], i: u8) -> u8
+    requires { ⌜ Collected (now s) (now last) ⌝ }
+    ensures { λ r. ⌜ r ≡ tierFrom (graphOf (now (s .entry)) (typesOf (now (s .entry)))) (now (tiers .entry)) i ⌝ }
+{
+    let at = items::rest(s, i as u16);
+    let fields = sheet::pair_at(s, at as usize);
+    let mut best: u8 = 0;
+    let mut k: u16 = 0;
+    while k < fields {
+        let inner = leads_to(s, last, at, k);
+        k += 1;
+        if inner != 255 {
+            let held = tiers[inner as usize];
+            best = larger(best, above(held));
+        }
+    }
+    best
+}
+
+// Each struct item begins at 255, which it keeps until its turn comes.
+fn unknown_tiers(s: &[u8]) -> [u8; 255]
+    ensures { λ r. ⌜ r ≡ startTo (graphOf (now (s .entry)) (typesOf (now (s .entry)))) 255 (replicate 255 0) ⌝ }
+{
+    let mut tiers: [u8; 255] = [0; 255];
+    let mut i: u8 = 0;
+    while i < 255 {
+        let item = i;
+        i += 1;
+        if is_struct(s, item) {
+            tiers[item as usize] = 255;
+        }
+    }
+    tiers
+}
+
+// The tiers, by one pass over the order. An item that is asked for before its turn lies on a cycle, so its 255 is right.
+pub fn tiers(s: &[u8], last: &[u8; 256], order: &[u8; 255], len: usize) -> [u8; 255]
+    requires { ⌜ Collected (now s) (now last) ⌝ }
+    requires { ⌜ Ordered (now s) (now order) len ⌝ }
+    ensures { λ r. ⌜ Tiered (now (s .entry)) r ⌝ }
+{
+    let mut tiers = unknown_tiers(s);
+    let mut p = 0;
+    while p < len {
+        let i = order[p];
+        let t = tier_from(s, last, &tiers, i);
+        tiers[i as usize] = t;
+        p += 1;
+    }
+    tiers
 }
