@@ -16,6 +16,7 @@ use sheet::rows;
 
 // What a row is, as a number: a name whose last struct decides, or one of these.
 const IMPROPER: u16 = 256;
+
 const PROPER: u16 = 257;
 
 // What a pass makes of the set, and whether it found a name.
@@ -54,7 +55,10 @@ fn is_through(k: u16) -> bool
 fn is_improper(k: u16) -> bool
     ensures { λ r. ⌜ r ≡ improperKind k ⌝ }
 {
-    or(or(or(or(or(k == 1, k == 2), k == 9), k == 12), k == 13), k == 10)
+    or(
+        or(or(or(or(k == 1, k == 2), k == 9), k == 12), k == 13),
+        k == 10,
+    )
 }
 
 // Row r, by the looks of the rows below it: Ref, Ptr and Array are looked through.

@@ -1,44 +1,39 @@
+-- `improper::search` meets its contract. The invariant: the set is that of the definition's search after as many passes. The measure is the number of names that
+-- are not found, and one more while a pass is due.
+-- Assumes nothing.
+use Prim.Native.Nat.{_+_}
+use borrow.Author.Needs.{needs}
+use Rattle.rules.specs.Diagnostics.{bit}
+use Rattle.improper.proofs.Passes.{left, Searching, searching-start, searching-on, searching-less, searched}
 use Rattle.improper.proofs.search.Statement.{statement}
 use Rattle.improper.proofs.search.Tie as tie
-use Rattle.improper.proofs.search.Reads as reads
-use Rattle.improper.proofs.search.Lts as lts
-use Rattle.improper.proofs.look_rows.Reads as look-rows-reads
-use Rattle.improper.proofs.one_pass.Reads as one-pass-reads
-use Rattle.names.proofs.empty.Reads as empty-reads
 
 abbrev Inv-loop : tie.InvT-loop
-Inv-loop s sets last looks names₀ new₀ names new = ?
+Inv-loop s sets last looks names₀ new₀ names new = Searching s (names .words) new
 
 abbrev μ-loop : tie.MeasureT-loop
-μ-loop s sets last looks names₀ new₀ names new = ?
+μ-loop s sets last looks names₀ new₀ names new = left (names .words) + bit new
 
--- src/lib.rt:142:17
 look-rows-requires : tie.Need-look-rows-requires Inv-loop μ-loop
-look-rows-requires c κs = ?
+look-rows-requires c κs = let p = c .before .pre in (p .accepted, p .sets)
 
--- src/lib.rt:143:9
 empty-requires : tie.Need-empty-requires Inv-loop μ-loop
-empty-requires c κs = ?
+empty-requires c κs = search needs
 
--- src/lib.rt:145:5
 loop-holds : tie.Need-loop-holds Inv-loop μ-loop
-loop-holds c = ?
+loop-holds c = searching-start _ _ (c .empty .ensures)
 
--- src/lib.rt:146:13
 one-pass-requires : tie.Need-one-pass-requires Inv-loop μ-loop
-one-pass-requires c κs = ?
+one-pass-requires c κs = let p = c .before .before .before .before .before .before .pre in record { accepted = p .accepted; rows = c .before .before .before .before .look-rows .ensures; last = p .last }
 
--- src/lib.rt:145:5
 loop-less : tie.Need-loop-less Inv-loop μ-loop
-loop-less c = ?
+loop-less c = searching-less _ _ _ (c .before .before .before .before .loop .inv) (c .before .before .before .loop-test .taken) _ _ (c .before .one-pass .ensures)
 
--- src/lib.rt:145:5
 loop-again : tie.Need-loop-again Inv-loop μ-loop
-loop-again c = ?
+loop-again c = searching-on _ _ _ (c .before .before .before .before .loop .inv) (c .before .before .before .loop-test .taken) _ _ (c .before .one-pass .ensures)
 
--- src/lib.rt:138:1
 returns : tie.Need-returns Inv-loop μ-loop
-returns c = ?
+returns c = searched (c .before .before .before .before .before .args .s .now) (c .before .before .before .before .before .pre .accepted) _ (c .before .loop .inv .done (c .loop-test .left))
 
 pub search-spec : {M : Type 1} → statement M
 search-spec =
