@@ -56,3 +56,9 @@ unfoldable pub answerWith : (sets improper reasons order tiers : List ℕ) → (
 answerWith w improper reasons order tiers total =
     let all = wordsAt w 0 ∷ wordsAt w 1 ∷ wordsAt w 2 ∷ wordsAt w 3 ∷ wordsAt w 4 ∷ wordsAt w 5 ∷ wordsAt w 6 ∷ improper ∷ [] in
     record { verdict = Accepted; sets = map nameSet all; sizes = map size all; reasons = reasons; order = order; tiers = tiers; total = total }
+
+-- what is done with an accepted sheet
+pub record Checked (s scratch₀ out : List ℕ) (from : ℕ) (r : Answer) (scratch′ out′ : List ℕ) : Type 0 where
+  pub answer : r ≡ accepted s (typesOf s) (walkOf s (typesOf s)) (reportOf s (typesOf s) (walkOf s (typesOf s)))
+  pub scratch : scratch′ ≡ cleared scratch₀
+  pub window : out′ ≡ kept out from (map codeOf (report s))

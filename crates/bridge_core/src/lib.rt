@@ -7,8 +7,21 @@ ghost use Rattle.bridge_core.specs.Run.{Ran};
 ghost use Rattle.bridge_core.specs.Windows.{least2, least3, nextOf};
 use rules::Answer;
 use rules::Diagnostic;
+use rules::Step;
 
+mod accepted; // one run over an accepted sheet
 mod answers; // answers, made of their parts
+
+// What the sheet comes to: the codes from number `from` on as far as `out` reaches, and the answer. A refused sheet changes nothing.
+pub fn run(s: &[u8], scratch: &mut [u8], out: &mut [u64], from: usize) -> Answer
+    ensures { λ r. ⌜ Ran (now (s .entry)) (now (scratch .entry)) (now (out .entry)) from r (now (scratch .exit)) (now (out .exit)) ⌝ }
+{
+    let step = sheet::read::read_with(scratch.len(), s);
+    match step {
+        Step::Refused { number, position } => answers::refused(number, position),
+        Step::Next(_) => accepted::run(s, scratch, out, from),
+    }
+}
 
 // The record of the code for place i of the list, where the first code belongs at place `at`.
 pub fn record_from(codes: &[u64], at: usize, i: usize) -> Diagnostic
