@@ -3,6 +3,7 @@
 -- Assumes nothing.
 pub mod Targets
 pub mod Slices
+pub mod Twice
 use Prim.Native.Nat.{ℕ, _<_}
 use mathlib.Core.Path.{_≡_, refl, sym, ap, _∙_, subst}
 use mathlib.Core.Logic.{_⊎_, inl, inr}
