@@ -3,8 +3,9 @@
 -- Assumes nothing.
 pub mod Targets
 pub mod Slices
+pub mod Twice
 use Prim.Native.Nat.{ℕ, _<_}
-use mathlib.Core.Path.{_≡_, refl, sym, ap, _∙_}
+use mathlib.Core.Path.{_≡_, refl, sym, ap, _∙_, subst}
 use mathlib.Core.Logic.{_⊎_, inl, inr}
 use mathlib.Core.Bool.{Bool, true, false, not, _&&_, _||_}
 use mathlib.Core.List.{List, [], _∷_}
@@ -23,7 +24,8 @@ use Rattle.rules.specs.Book.{isShared, holdsNoCxx, holdsNoRust, forbidden}
 use Rattle.laws.specs.Tells.{has, tells}
 use Rattle.laws.proofs.Tests.{never, is-true, holds, or-is, both-are, implied, all-pass}
 use Rattle.laws.proofs.Tells.{tells-some, and-false}
-use Rattle.laws.proofs.Messages.{every-some, rowTable, rowMessages, row-messages}
+use Rattle.laws.proofs.Forms.{all-some}
+use Rattle.laws.proofs.Messages.Rows.{between, rowTable, rowMessages, row-told}
 use Rattle.laws.proofs.Accepted.Rows.{row-of}
 use Targets.{plain, target, is-kind, forbidden-by, Rust, box-is, vec-is, vec-box, unique-is, shared-is, weak-is, vector-is}
 use Slices.{slice-refused, array-refused}
@@ -85,10 +87,15 @@ module _ (s : List ℕ) (acc : Accepted s) (t : Types) (r : ℕ) (l : r < rows s
 
   -- which kinds have a message: one computed test
   said-among : (m : ℕ) (q : ℕ → Bool) → some 14 (λ x. not (not (rowMessages x m) || q x)) ≡ false → tells m (check-type s t r) ≡ true → q (kind s r) ≡ true
+  unfolding rowMessages
   said-among m q test h =
-      let u : T (rowMessages (kind s r) m) = every-some (rowMessages (kind s r)) (row-messages s t r) (tells-some m (check-type s t r) (holds h)) in
+      let u : T (rowMessages (kind s r) m) =
+      all-some (λ d p e. passes (d .message) e (p .message)) (row-told s t r) (tells-some m (check-type s t r) (holds h)) in
       let v = all-pass 14 (λ x. not (rowMessages x m) || q x) test (kind s r) (row-of s acc r l .known) in
       implied (rowMessages (kind s r) m) (q (kind s r)) v (is-true (rowMessages (kind s r) m) u)
+    where
+      passes : (x : ℕ) → x ≡ m → T (between (getD rowTable (kind s r) (3, 2) .0) (getD rowTable (kind s r) (3, 2) .1) x) → T (rowMessages (kind s r) m)
+      passes x e u = subst (λ (y : ℕ). T (rowMessages (kind s r) y)) e u
 
   said-by : (m k : ℕ) → some 14 (λ x. not (not (rowMessages x m) || eqb x k)) ≡ false → tells m (check-type s t r) ≡ true → kind s r ≡ k
   said-by m k test h = eqb-true (kind s r) k (said-among m (λ x. eqb x k) test h)

@@ -18,6 +18,7 @@ pub mod NameSets
 pub mod Sets
 pub mod LastItems
 pub mod Rule3Order
+pub mod Forms
 pub mod Messages
 pub mod Rule3Cyclic
 pub mod SetMembers
@@ -29,5 +30,4 @@ pub mod Fuel
 pub mod Tells
 pub mod Book
 pub mod Due
-pub mod Sound
 pub mod SmallReport

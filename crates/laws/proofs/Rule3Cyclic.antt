@@ -1,10 +1,9 @@
 -- Message 2 comes from the walk and from nothing else, so that the full report has it exactly where some chain leads back to its start.
 -- Assumes nothing.
-use Prim.Native.Nat.{ℕ}
+use Prim.Native.Nat.{ℕ, _≤_}
 use mathlib.Core.Path.{_≡_, refl}
 use mathlib.Core.Logic.{_⊎_, inl, inr, _↔_}
 use mathlib.Core.List.{List, [], _∷_, _++_}
-use lib.Dec.{T, leb, leb→le}
 use native.Mathlib.Omega.{arith}
 use lib.ListN.{length, getD}
 use Rattle.rules.specs.declared.Diagnostic.{Diagnostic}
@@ -12,7 +11,8 @@ use Rattle.rules.specs.Base.{over}
 use Rattle.rules.specs.View.{items}
 use Rattle.rules.specs.Collect.{duplicates}
 use Rattle.rules.specs.Types.{Types, typesOf}
-use Rattle.laws.proofs.Chains.{Cycle}
+use Rattle.rules.specs.Graph.{Graph}
+use Rattle.laws.proofs.Chains.{Good, Cycle}
 use Rattle.rules.specs.Walk.{sortOut}
 use Rattle.rules.specs.Order.{graphOf, walkOf}
 use Rattle.rules.specs.Check.{check-type, check-api}
@@ -22,8 +22,11 @@ use Rattle.rules.specs.Rule3 as R
 use Rattle.laws.proofs.WalkOrder.{no-code, some-code}
 use Rattle.laws.proofs.LastItems.{Fits, good}
 use Rattle.laws.proofs.Rule3Order.{cycle-is}
-use Rattle.laws.proofs.Messages.{Every, none, more, every-some, between, duplicate-messages, walk-messages, rows-messages, items-messages}
-use Rattle.laws.proofs.Tests.{and-left, and-right}
+use Rattle.laws.proofs.Forms.{All, none, more, loop, all-some, all-map}
+use Rattle.laws.proofs.Messages.{duplicates-told}
+use Rattle.laws.proofs.Messages.Rows.{between-is, row-told, row-range}
+use Rattle.laws.proofs.Messages.Items.{item-told}
+use Rattle.laws.proofs.Messages.Walk.{OfField, walk-told}
 
 abbrev Two : Diagnostic → Type 0
 Two d = d .message ≡ 2
@@ -75,27 +78,32 @@ middle a b c d fa fc fd h = last (some-split (a ++ b ++ c) h)
 outer : (a b c d : List Diagnostic) → Some Two b → Some Two (a ++ b ++ c ++ d)
 outer a b c d h = some-left d (some-left c (some-right a h))
 
-module _ (s : List ℕ) (fits : Fits s) where
-  abbrev errors : List Diagnostic
-  errors = sortOut (graphOf s (typesOf s)) 255 .errors
-
-  found : (l : List Diagnostic) → errors ≡ l → Some Two l → Cycle (graphOf s (typesOf s))
+-- the walk has message 2 exactly where some chain of the graph leads back to its start
+module _ (G : Graph) (n : ℕ) (whole : Good G n) where
+  found : (l : List Diagnostic) → sortOut G n .errors ≡ l → Some Two l → Cycle G
   found [] e h = absurd (has h)
-  found (d ∷ ds) e h = some-code (graphOf s (typesOf s)) 255 (good s fits) d ds e
+  found (d ∷ ds) e h = some-code G n whole d ds e
 
-  put : R.Cycle s → (l : List Diagnostic) → errors ≡ l → Every (between 2 2) l → Some Two l
-  put c l e none = absurd (no-code (graphOf s (typesOf s)) 255 (good s fits) .0 e (cycle-is s fits .1 c))
-  put c l e (more {d = d} m ms) = first (two (d .message) m)
-    where
-      two : (m : ℕ) → T (between 2 2 m) → m ≡ 2
-      two m t = let a = leb→le 2 m (and-left (leb 2 m) (leb m 2) t) in let b = leb→le m 2 (and-right (leb 2 m) (leb m 2) t) in omega arith
+  put : Cycle G → (l : List Diagnostic) → sortOut G n .errors ≡ l → All (OfField G) l → Some Two l
+  put c l e none = absurd (no-code G n whole .0 e c)
+  put c l e (more m ms) = first (m .message)
+
+  pub walk-cyclic : Some Two (sortOut G n .errors) ↔ Cycle G
+  walk-cyclic = (found (sortOut G n .errors) refl, λ c. put c (sortOut G n .errors) refl (walk-told G n whole))
+
+module _ (s : List ℕ) (fits : Fits s) where
+  pub walk-cyclic-is : Some Two (walkOf s (typesOf s) .errors) ↔ R.Cycle s
+  unfolding walkOf
+  walk-cyclic-is =
+      let w = walk-cyclic (graphOf s (typesOf s)) 255 (good s fits) in
+      (λ h. cycle-is s fits .0 (w .0 h), λ c. w .1 (cycle-is s fits .1 c))
 
   -- the full report has message 2 exactly where some chain leads back to its start
   pub cyclic-is : Some Two (report s) ↔ R.Cycle s
-  unfolding report reportOf walkOf
+  unfolding report reportOf
   cyclic-is = (
-    λ h. cycle-is s fits .0 (found errors refl (middle (duplicates s) errors rows itemised no-duplicate no-row no-item h)),
-    λ c. outer (duplicates s) errors rows itemised (put c errors refl (walk-messages (graphOf s t) 255)),
+    λ h. walk-cyclic-is .0 (middle (duplicates s) (walkOf s t .errors) rows itemised no-duplicate no-row no-item h),
+    λ c. outer (duplicates s) (walkOf s t .errors) rows itemised (walk-cyclic-is .1 c),
   )
     where
       t : Types
@@ -108,10 +116,16 @@ module _ (s : List ℕ) (fits : Fits s) where
       itemised = over (items s) (check-api s t)
 
       no-duplicate : Some Two (duplicates s) → ⊥
-      no-duplicate = every-some (between 1 1) (duplicate-messages s)
+      no-duplicate h = all-some (λ d p q. let e = p .message in omega arith) (duplicates-told s) h
 
       no-row : Some Two rows → ⊥
-      no-row = every-some (between 3 26) (rows-messages s t (t .all))
+      no-row h = all-some (λ d p q. omega arith) (loop {P = λ d. 3 ≤ d .message} _ _ (λ k _. row (getD (t .all) k 0))) h
+        where
+          row : (r : ℕ) → All (λ d. 3 ≤ d .message) (check-type s t r)
+          row r = all-map _ (λ d. 3 ≤ d .message) (λ d p. row-range s r p .0) (row-told s t r)
 
       no-item : Some Two itemised → ⊥
-      no-item = every-some (between 27 58) (items-messages s t (items s))
+      no-item h = all-some (λ d p q. omega arith) (loop {P = λ d. 27 ≤ d .message} _ _ (λ i _. item i)) h
+        where
+          item : (i : ℕ) → All (λ d. 27 ≤ d .message) (check-api s t i)
+          item i = all-map _ (λ d. 27 ≤ d .message) (λ d p. between-is 27 58 (d .message) (p .message) .0) (item-told s t i)

@@ -1,6 +1,6 @@
 -- Which messages a list of diagnostics has, and which messages a row can have, by its kind.
 -- Assumes nothing.
-use Prim.Native.Nat.{ℕ, zero, suc}
+use Prim.Native.Nat.{ℕ, zero, suc, _<_}
 use mathlib.Core.Path.{_≡_, refl, sym, ap, _∙_, subst}
 use mathlib.Core.Logic.{_⊎_, inl, inr}
 use mathlib.Core.Bool.{Bool, true, false, _&&_, _||_}
@@ -11,6 +11,8 @@ use Rattle.rules.specs.Base.{if_then_else_, over}
 use Rattle.rules.specs.Diagnostics.{when}
 use Rattle.rules.specs.Rule3.{Some, first, later}
 use Rattle.laws.specs.Tells.{has, tells}
+use native.Mathlib.Omega.{arith}
+use Rattle.laws.proofs.Counts.{Eq?, same, other, eq?}
 use Rattle.laws.proofs.Tests.{or-left, or-right, or-cases}
 
 -- ## Tests
@@ -75,10 +77,17 @@ module _ (p : Diagnostic → Bool) where
   has-if true x y = refl
   has-if false x y = refl
 
-  has-over : (n : ℕ) (f : ℕ → List Diagnostic) → ((j : ℕ) → has p (f j) ≡ false) → has p (over n f) ≡ false
-  unfolding over has
-  has-over zero f h = refl
-  has-over (suc n) f h = has-append (over n f) (f n) ∙ ap (λ b. b || has p (f n)) (has-over n f h) ∙ h n
+  pub has-left : (a b : List Diagnostic) → has p a ≡ true → has p (a ++ b) ≡ true
+  has-left a b h = has-append a b ∙ ap (λ c. c || has p b) h
+
+  pub has-among : (n : ℕ) (f : ℕ → List Diagnostic) (i : ℕ) → i < n → has p (f i) ≡ true → has p (over n f) ≡ true
+  unfolding over
+  has-among zero f i l h = absurd (omega arith)
+  has-among (suc n) f i l h = go (eq? i n) (has-among n f i)
+    where
+      go : Eq? i n → (i < n → has p (f i) ≡ true → has p (over n f) ≡ true) → has p (over n f ++ f n) ≡ true
+      go (same _ e) ih = has-append (over n f) (f n) ∙ ap (λ c. has p (over n f) || c) (ap (λ k. has p (f k)) (sym e) ∙ h) ∙ or-true (has p (over n f))
+      go (other _ e) ih = has-left (over n f) (f n) (ih (omega arith) h)
 
 -- in the words of rule 3
 abbrev HasOne : (m : ℕ) → List Diagnostic → Type 0
