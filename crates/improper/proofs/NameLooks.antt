@@ -1,17 +1,17 @@
 -- What a name is, in the cases that the code tells apart.
 -- Assumes nothing.
-use Prim.Native.Nat.{ℕ, _/_, _≤_, _<_}
-use mathlib.Core.Path.{_≡_, refl, sym, ap, _∙_, subst}
+use Prim.Native.Nat.{ℕ, _≤_, _<_}
+use mathlib.Core.Path.{_≡_, refl, _∙_}
 use mathlib.Core.Bool.{Bool, true, false, _||_}
 use mathlib.Core.List.{List}
 use native.Mathlib.Omega.{arith}
 use native.Mathlib.Decide.{decLt}
-use borrow.Author.Tests.{lt-ltb, le-ltb, ne-eqb}
-use lib.Dec.{ltb, eqb}
+use borrow.Author.Tests.{lt-ltb, le-ltb}
+use lib.Dec.{eqb}
 use Rattle.rules.specs.Base.{if_then_else_}
-use Rattle.rules.specs.Names.{Words, _∋_, isAtom, nameRustString}
+use Rattle.rules.specs.Names.{_∋_, isAtom}
 use Rattle.rules.specs.Types.{Types}
-use Rattle.rules.specs.Improper.{Look, fine, bad, to, definite, lookName}
+use Rattle.rules.specs.Improper.{to, definite, lookName}
 use Rattle.laws.proofs.Tests.{never}
 use Rattle.names.specs.Table.{wordsAt}
 use Rattle.names.proofs.Laws.{contains-not}

@@ -4,24 +4,25 @@ use Prim.Native.Nat.{ℕ, zero, suc, _+_, _-_, _≤_, _<_}
 use mathlib.Core.Path.{_≡_, refl, sym, ap, _∙_, subst}
 use mathlib.Core.Logic.{_≢_}
 use mathlib.Core.Bool.{Bool, true, false, _||_, or-false}
-use mathlib.Core.List.{List, [], _∷_}
+use mathlib.Core.List.{List}
 use native.Mathlib.Numerals.{add-one}
 use native.Mathlib.Omega.{arith}
-use borrow.Author.Tests.{lt-ltb, le-ltb, eq-eqb, ne-eqb}
-use lib.Dec.{ltb, eqb}
+use borrow.Author.Tests.{le-ltb, ne-eqb}
+use lib.Dec.{eqb}
 use lib.ListN.{length, getD}
+use lib.Seq.{set-getD, getD-set-same}
 use Rattle.rules.specs.Base.{if_then_else_}
-use Rattle.rules.specs.Format.{pairAt, Accepted}
+use Rattle.rules.specs.Format.{pairAt}
 use Rattle.rules.specs.Names.{Words, _∋_, add}
 use Rattle.rules.specs.View.{rows, items, rest, entry, fieldCount, field}
 use Rattle.rules.specs.Collect.{none, entersStructs}
 use Rattle.rules.specs.Types.{typesOf, structOf}
-use Rattle.rules.specs.Improper.{Look, fine, bad, to, definite, lookRow, looksFields, looksLook, looksOf, hits, found, attempt, look, passTo}
+use Rattle.rules.specs.Improper.{Look, fine, bad, lookRow, looksFields, looksLook, looksOf, hits, found, look, passTo}
 use Rattle.rules.specs.Rule3.{IsStruct}
-use Rattle.laws.proofs.Tests.{never}
 use Rattle.laws.proofs.LastItems.{length-last, of-last}
 use Rattle.laws.proofs.Accepted.{fits}
-use Rattle.improper.specs.Looks.{lookOf, Table}
+use Rattle.laws.proofs.Accepted.Items.{item-of}
+use Rattle.improper.specs.Looks.{lookOf}
 use Rattle.improper.specs.Post.{Looked, Passes}
 use Rattle.improper.proofs.NameLooks.{look-name}
 
@@ -43,16 +44,14 @@ hits-code s w c h = rw (le-ltb c 256 h, if_then_else_) (go (eqb c 256))
 
 -- ## The last struct of a name
 
--- what stands inside a list does not depend on what stands for what is missing
-getD-any : (l : List ℕ) (n d e : ℕ) → n < length l → getD l n d ≡ getD l n e
-getD-any [] n d e h = absurd (omega arith)
-getD-any (x ∷ l) zero d e h = refl
-getD-any (x ∷ l) (suc n) d e h = getD-any l n d e (omega arith)
-
 module _ (s looks l : List ℕ) (own : Looked s looks l) (n : ℕ) (small : n < 256) where
-  pub struct-is : getD l n 0 ≡ structOf (typesOf s) n
+  -- the table at the name, as the code reads it
+  struct-is : getD l n 0 ≡ structOf (typesOf s) n
   unfolding structOf typesOf
-  struct-is = rw (own .last) (getD-any (typesOf s .lastStruct) n 0 255 (omega (arith, length-last s (entersStructs s) (items s))))
+  struct-is =
+      let e = own .last in
+      let inside : n < length l = omega (arith, ap length e, length-last s (entersStructs s) (items s)) in
+      rw (← e) (ap (λ (x : List ℕ). getD x n 0) (sym (set-getD l n none)) ∙ getD-set-same l n (getD l n none) 0 inside)
 
   pub fields-none : getD l n 0 ≡ 255 → looksFields s (typesOf s) n ≡ 0
   unfolding looksFields if_then_else_
@@ -72,6 +71,9 @@ module _ (s looks l : List ℕ) (own : Looked s looks l) (n : ℕ) (small : n < 
     counts : looksFields s (typesOf s) n ≡ fieldCount s (getD l n 0)
     unfolding looksFields if_then_else_
     counts = rw (← struct-is, ne-eqb (getD l n 0) 255 ne, if_then_else_)
+
+    pub fields-few : looksFields s (typesOf s) n ≤ 64
+    fields-few = omega (arith, counts, item-of s (own .accepted) (getD l n 0) (is-item .below) .as-struct (is-item .is-struct) .few-fields)
 
     -- field k of it
     module _ (at row k : ℕ) (a : at ≡ rest s (getD l n 0)) (r : row ≡ entry s at k) (h : k < looksFields s (typesOf s) n) where
@@ -129,9 +131,12 @@ module _ (s : List ℕ) (b : Words) (n : ℕ) (w : Words) (new : Bool) (h : Pass
   on : (a : Words × Bool) → lookIn s w n ≡ a → Passes s b (n + 1) (a .0) (new || a .1)
   unfolding passTo
   on a e =
+      let before = passTo Words _∋_ add (looksOf s (typesOf s)) 256 n b in
       record {
         names = ap (λ x. x .0) (sym e) ∙ rw (add-one, passTo) (ap (λ x. lookIn s x n .0) (h .names));
-        found = ap (λ x. new || x .1) (sym e) ∙ rw (add-one, passTo) (ap (λ x. x || lookIn s w n .1) (h .found) ∙ ap (λ x. passTo Words _∋_ add (looksOf s (typesOf s)) 256 n b .1 || lookIn s x n .1) (h .names));
+        found =
+            ap (λ x. new || x .1) (sym e)
+            ∙ rw (add-one, passTo) (ap (λ x. x || lookIn s w n .1) (h .found) ∙ ap (λ x. before .1 || lookIn s x n .1) (h .names));
       }
 
   pub passes-had : w ∋ n ≡ true → Passes s b (n + 1) w new

@@ -1,22 +1,21 @@
--- What a row is, in the cases that the code tells apart; and the table of rows, filled upward. The fuel of the definition is enough: rows refer to smaller rows.
+-- What a row is, in the cases that the code tells apart; and the table of rows, filled upward. The definition's fuel is enough: rows refer to smaller rows.
 -- Assumes nothing.
 use Prim.Native.Nat.{ℕ, zero, suc, _+_, _≤_, _<_}
-use mathlib.Core.Path.{_≡_, refl, sym, ap, _∙_, subst}
+use mathlib.Core.Path.{_≡_, sym, _∙_}
 use mathlib.Core.Logic.{_≢_, _⊎_, inl, inr}
-use mathlib.Core.Bool.{Bool, true, false, _||_}
+use mathlib.Core.Bool.{true, false, _||_}
 use mathlib.Core.List.{List}
 use native.Mathlib.Omega.{arith}
 use borrow.Author.Tests.{eqb-true, eq-eqb, ne-eqb}
 use lib.Dec.{eqb}
-use lib.ListN.{length, getD, set, replicate, length-set, length-replicate}
+use lib.ListN.{length, getD, set, length-set}
 use lib.Seq.{getD-set-same, getD-set-other}
 use Rattle.rules.specs.Format.{Accepted}
 use Rattle.rules.specs.View.{Ident, Ref, Ptr, Array, rows, kind, rowName, inner}
 use Rattle.rules.specs.Types.{typesOf}
-use Rattle.rules.specs.Improper.{Look, definite, lookName, lookRow}
+use Rattle.rules.specs.Improper.{definite, lookName, lookRow}
 use Rattle.laws.proofs.Tests.{both, or-is}
 use Rattle.laws.proofs.Counts.{Eq?, same, other, eq?}
-use Rattle.laws.proofs.LastItems.{Fits}
 use Rattle.laws.proofs.Accepted.{fits}
 use Rattle.laws.proofs.Accepted.Sheet.{sheet-of}
 use Rattle.improper.specs.Looks.{lookOf, through, improperKind, Table}

@@ -10,7 +10,6 @@ use Rattle.rules.specs.View.{rows}
 use Rattle.rules.specs.Types.{typesOf}
 use Rattle.rules.specs.Improper.{looksOf, passTo, improperOf}
 use Rattle.rules.specs.Rule3.{ImproperRule}
-use Rattle.improper.specs.declared.Pass.{Pass}
 use Rattle.improper.specs.Looks.{Sets, Table}
 
 -- the sheet is accepted, and the lent tables are its own: sets of names, and the last struct of each name

@@ -1,8 +1,7 @@
 -- How the parts of the walk are put together in the code's state, and what each part uses up: places of the order and numbers of visits.
 -- Assumes nothing.
-use Prim.Native.Nat.{ℕ, zero, suc, _+_, _-_, _*_, _^_, _≤_, _<_}
-use mathlib.Core.Path.{_≡_, refl, sym, ap, subst, _∙_}
-use mathlib.Core.Bool.{Bool, true, false}
+use Prim.Native.Nat.{ℕ, zero, suc, _+_, _*_, _≤_, _<_}
+use mathlib.Core.Path.{_≡_, refl, ap, _∙_}
 use mathlib.Core.List.{List, [], _∷_, _++_}
 use native.Mathlib.Nat.{add-zero, add-suc, suc-add}
 use native.Mathlib.Numerals.{add-one}
@@ -12,7 +11,7 @@ use lib.Dec.{T, eqb}
 use lib.ListN.{length, getD, set, length-append, length-set}
 use lib.Seq.{sets}
 use Rattle.rules.specs.Graph.{Graph}
-use Rattle.rules.specs.Walk.{Out, still, join, flagged, finished, fieldOut, fieldsOut, visitOut, itemOut, itemsOut}
+use Rattle.rules.specs.Walk.{Out, still, join, fieldOut, fieldsOut, visitOut, itemOut, itemsOut}
 use Rattle.laws.proofs.Tests.{both, holds}
 use Rattle.laws.proofs.Counts.{fresh, fresh-set, fresh-set-le}
 use Rattle.laws.proofs.Chains.{Good}
@@ -52,12 +51,18 @@ spends-still q m = record { long = refl; places = omega arith; calls = omega ari
 
 spends-join : {q q′ : ℕ} {m : List ℕ} {a c : Out} → Spends q m a → Spends q′ (a .marks) c → Spends (q + q′) m (join a c)
 spends-join {a = a} {c = c} h k =
-    record { long = k .long ∙ h .long; places = omega (arith, h .places, k .places, length-append (a .sorted) (c .sorted)); calls = omega (arith, h .calls, k .calls) }
+    record {
+      long = k .long ∙ h .long;
+      places = omega (arith, h .places, k .places, length-append (a .sorted) (c .sorted));
+      calls = omega (arith, h .calls, k .calls);
+    }
 
-spends-more : {q q′ : ℕ} {m : List ℕ} {a : Out} → q ≤ q′ → Spends q m a → Spends q′ m a
-spends-more l h = record { long = h .long; places = h .places; calls = omega (arith, h .calls) }
+-- at most 255 struct items of at most 64 fields, which lead to struct items
+pub record Bounded (G : Graph) : Type 0 where
+  pub good : Good G 255
+  pub few : (i : ℕ) → T (G .struct i) → G .fields i ≤ 64
 
-module _ (G : Graph) (good : Good G 255) (few : (i : ℕ) → T (G .struct i) → G .fields i ≤ 64) where
+module _ {G : Graph} (lim : Bounded G) where
   Visitor : (List ℕ → ℕ → Out) → Type 0
   Visitor v = (m : List ℕ) (e : ℕ) → length m ≡ 255 → T (G .struct e) → Spends 1 m (v m e)
 
@@ -65,7 +70,7 @@ module _ (G : Graph) (good : Good G 255) (few : (i : ℕ) → T (G .struct i) �
   unfolding fieldOut Visitor
   spends-field v hv i k l m h =
       both (eqb (G .to i k) 255) (λ e. rw (e, fieldOut) (spends-still 1 m)) (λ e.
-      let p = hv m (G .to i k) h (good .closed i k l (eqb-false (G .to i k) 255 e)) in
+      let p = hv m (G .to i k) h (lim .good .closed i k l (eqb-false (G .to i k) 255 e)) in
       rw (e, fieldOut) (record { long = p .long; places = p .places; calls = p .calls }))
 
   spends-fields : (v : List ℕ → ℕ → Out) → Visitor v → (i k : ℕ) → k ≤ G .fields i → (m : List ℕ) → length m ≡ 255 → Spends k m (fieldsOut v G i k m)
@@ -83,9 +88,9 @@ module _ (G : Graph) (good : Good G 255) (few : (i : ℕ) → T (G .struct i) �
       (λ e.
       let o = fieldsOut (visitOut f G) G i (G .fields i) (set m i 1) in
       let a = spends-fields (visitOut f G) (spends-visit f) i (G .fields i) (omega arith) (set m i 1) (length-set m i 1 ∙ h) in
-      let n = fresh-set m i 0 (omega (arith, good .below i t)) (eqb-true (getD m i 0) 0 e) in
+      let n = fresh-set m i 0 (omega (arith, lim .good .below i t)) (eqb-true (getD m i 0) 0 e) in
       let g = fresh-set-le (o .marks) i 1 in
-      let k = few i t in
+      let k = lim .few i t in
       rw (e, visitOut)
       (record {
         long = length-set (o .marks) i 2 ∙ a .long ∙ length-set m i 1;

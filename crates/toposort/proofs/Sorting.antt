@@ -1,28 +1,25 @@
 -- The turns of the code's loop over the items, and the answer of `sort`.
 -- Assumes nothing.
-use Prim.Native.Nat.{ℕ, zero, suc, _+_, _*_, _≤_, _<_}
-use mathlib.Core.Path.{_≡_, refl, sym, ap, subst, _∙_}
-use mathlib.Core.Bool.{Bool, true, false}
-use mathlib.Core.List.{List, []}
+use Prim.Native.Nat.{ℕ, _+_, _≤_, _<_}
+use mathlib.Core.Path.{_≡_, ap, subst, _∙_}
+use mathlib.Core.Bool.{true, false}
+use mathlib.Core.List.{List}
 use native.Mathlib.Numerals.{add-one}
 use native.Mathlib.Omega.{arith}
-use lib.Dec.{T}
-use lib.ListN.{length, replicate, length-replicate}
+use lib.ListN.{replicate, length-replicate}
 use Rattle.rules.specs.Format.{Accepted}
 use Rattle.rules.specs.Types.{typesOf}
 use Rattle.rules.specs.Graph.{Graph}
-use Rattle.rules.specs.Walk.{Out, itemOut, itemsOut, sortOut}
+use Rattle.rules.specs.Walk.{itemOut, itemsOut, sortOut}
 use Rattle.rules.specs.Order.{graphOf, walkOf}
 use Rattle.rules.specs.Answer.{places}
 use Rattle.laws.proofs.Counts.{fresh, fresh-zeros}
-use Rattle.laws.proofs.Chains.{Good}
 use Rattle.laws.proofs.Accepted.{fits}
 use Rattle.errors.specs.declared.Errors.{Errors}
 use Rattle.toposort.specs.declared.Walk.{Walk}
-use Rattle.toposort.specs.declared.Sorted.{Sorted}
 use Rattle.toposort.specs.State.{Did, Visits, Room}
 use Rattle.toposort.specs.Post.{Sorts}
-use Rattle.toposort.proofs.Parts.{did-still, did-join, Spends, spends-items, room-after}
+use Rattle.toposort.proofs.Parts.{did-still, did-join, Spends, Bounded, spends-items, room-after}
 use Rattle.toposort.proofs.WalkRule.{walk-rule}
 
 -- nothing is marked
@@ -38,13 +35,13 @@ pub sorting-none : (G : Graph) (b : List ℕ) (cx : Errors) → Sorting G b cx 0
 unfolding itemsOut
 sorting-none G b cx = record { upto = omega arith; did = did-still b (begun cx) }
 
-module _ (G : Graph) (good : Good G 255) (few : (i : ℕ) → T (G .struct i) → G .fields i ≤ 64) {b : List ℕ} {cx : Errors} {i : ℕ} {b′ : List ℕ} {v : Walk} (g : Sorting G b cx i b′ v) (l : i < 255) where
+module _ {G : Graph} (lim : Bounded G) {b : List ℕ} {cx : Errors} {i : ℕ} {b′ : List ℕ} {v : Walk} (g : Sorting G b cx i b′ v) (l : i < 255) where
   zeros : List ℕ
   zeros = replicate 255 0
 
   spent : Spends i zeros (itemsOut 256 G i zeros)
   unfolding zeros
-  spent = spends-items G good few 256 i (replicate 255 0) (length-replicate {A = ℕ} 255 0)
+  spent = spends-items lim 256 i (replicate 255 0) (length-replicate {A = ℕ} 255 0)
 
   pub sorting-room : Room v 1
   unfolding zeros
@@ -52,7 +49,9 @@ module _ (G : Graph) (good : Good G 255) (few : (i : ℕ) → T (G .struct i) �
 
   sorting-fresh : fresh (v .marks) < 256
   unfolding zeros
-  sorting-fresh = let m : fresh (v .marks) ≡ fresh (itemsOut 256 G i (replicate 255 0) .marks) = ap fresh (g .did .marks) in omega (arith, spent .places, fresh-zeros 255)
+  sorting-fresh =
+      let m : fresh (v .marks) ≡ fresh (itemsOut 256 G i (replicate 255 0) .marks) = ap fresh (g .did .marks) in
+      omega (arith, spent .places, fresh-zeros 255)
 
   on : (r : Walk) (b″ : List ℕ) → Did b′ v (itemOut 256 G i (v .marks)) r b″ → Sorting G b cx (i + 1) b″ r
   unfolding itemsOut

@@ -1,18 +1,16 @@
 -- The turns of the loops that find the tiers, and what the pass over the order gives.
 -- Assumes nothing.
-use Prim.Native.Nat.{ℕ, zero, suc, _+_, _≤_, _<_, max, min}
-use mathlib.Core.Path.{_≡_, refl, sym, ap, subst, _∙_}
+use Prim.Native.Nat.{ℕ, _+_, _≤_, _<_, max}
+use mathlib.Core.Path.{_≡_, ap, _∙_}
 use mathlib.Core.Logic.{_≢_}
-use mathlib.Core.Bool.{Bool, true, false}
+use mathlib.Core.Bool.{true, false}
 use mathlib.Core.List.{List}
 use native.Mathlib.Numerals.{add-one}
 use native.Mathlib.Omega.{arith}
 use borrow.Author.Tests.{eq-eqb, ne-eqb}
-use lib.Dec.{T}
 use lib.ListN.{length, getD, set, replicate}
 use Rattle.rules.specs.Format.{Accepted}
 use Rattle.rules.specs.View.{items}
-use Rattle.rules.specs.Diagnostics.{bit}
 use Rattle.rules.specs.Count.{count}
 use Rattle.rules.specs.Types.{typesOf}
 use Rattle.rules.specs.Graph.{Graph}
@@ -23,7 +21,7 @@ use Rattle.rules.specs.Answer.{places}
 use Rattle.laws.proofs.Tests.{both, holds}
 use Rattle.laws.proofs.Counts.{count-get}
 use Rattle.laws.proofs.Lists.{places-get}
-use Rattle.laws.proofs.LastItems.{good, good-items}
+use Rattle.laws.proofs.LastItems.{good-items}
 use Rattle.laws.proofs.Accepted.{fits}
 use Rattle.laws.proofs.WalkOrder.{each-once}
 use Rattle.laws.proofs.WalkCalls.{order-few}
@@ -73,9 +71,6 @@ unfolding tiersTo
 tiers-on G o t u p x h e = rw (add-one, tiersTo, ← h, e)
 
 module _ (s : List ℕ) (acc : Accepted s) (o : List ℕ) (n : ℕ) (own : Ordered s o n) where
-  G : Graph
-  G = graphOf s (typesOf s)
-
   sorted : List ℕ
   sorted = sortOut (graphOf s (typesOf s)) 255 .sorted
 
@@ -93,12 +88,15 @@ module _ (s : List ℕ) (acc : Accepted s) (o : List ℕ) (n : ℕ) (own : Order
       let x = getD sorted p 0 in
       let c : 0 < count x sorted = count-get sorted p (omega (arith, own .len)) in
       let e = each-once (graphOf s (typesOf s)) 255 (whole s acc) x in
-      rw (front p) (both (graphOf s (typesOf s) .struct x) (λ t. whole s acc .below x (holds t)) (λ t. absurd (let z : count x sorted ≡ 0 = rw t at e in omega arith)))
+      let no : graphOf s (typesOf s) .struct x ≡ false → ⊥ = λ t. let z : count x sorted ≡ 0 = rw t at e in omega arith in
+      rw (front p) (both (graphOf s (typesOf s) .struct x) (λ t. whole s acc .below x (holds t)) (λ t. absurd (no t)))
 
-  pub tiers-end : (t : List ℕ) (p : ℕ) → p ≤ n → n ≤ p → t ≡ tiersTo (graphOf s (typesOf s)) o p (startTo (graphOf s (typesOf s)) 255 (replicate 255 0)) → Tiered s t
+  pub tiers-end : (t : List ℕ) (p : ℕ) → p ≤ n → n ≤ p
+      → t ≡ tiersTo (graphOf s (typesOf s)) o p (startTo (graphOf s (typesOf s)) 255 (replicate 255 0)) → Tiered s t
   unfolding walkOf sorted passOf
   tiers-end t p l m h =
       let g = graphOf s (typesOf s) in
       let z : p ≡ length sorted = omega (arith, own .len) in
-      let e : t ≡ places (tiersOf g (items s)) = h ∙ rw z (pass-front g 255 o sorted (length sorted) (λ q _. front q) ∙ pass-is g (items s) (good-items s (fits s acc)) (whole s acc)) in
+      let pass = pass-front g 255 o sorted (length sorted) (λ q _. front q) ∙ pass-is g (items s) (good-items s (fits s acc)) (whole s acc) in
+      let e : t ≡ places (tiersOf g (items s)) = h ∙ rw z pass in
       record { tiers = e; rule = rw e (tiers-are s (fits s acc)) }

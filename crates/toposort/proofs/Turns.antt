@@ -1,26 +1,25 @@
 -- The turns of the code's loop over the fields of a struct, and a visit as a whole.
 -- Assumes nothing.
-use Prim.Native.Nat.{ℕ, zero, suc, _+_, _-_, _*_, _^_, _≤_, _<_}
+use Prim.Native.Nat.{ℕ, zero, suc, _+_, _-_, _≤_, _<_}
 use mathlib.Core.Path.{_≡_, refl, sym, ap, subst, _∙_}
 use mathlib.Core.Bool.{Bool, true, false, _&&_, and-true, and-false}
-use mathlib.Core.List.{List, [], _∷_, _++_, append-nil}
+use mathlib.Core.List.{List, [], _∷_, append-nil}
 use native.Mathlib.Nat.{not-suc-le-zero}
 use native.Mathlib.Numerals.{add-one}
 use native.Mathlib.Omega.{arith}
 use borrow.Author.Tests.{eq-eqb, ne-eqb}
-use lib.Dec.{T, eqb}
+use lib.Dec.{eqb}
 use lib.ListN.{length, getD, set, length-append}
 use Rattle.rules.specs.declared.Place.the-variants.{F}
 use Rattle.rules.specs.Diagnostics.{say, when}
 use Rattle.rules.specs.Graph.{Graph}
-use Rattle.rules.specs.Walk.{Out, still, join, blame, flagged, finished, fieldOut, fieldsOut, visitOut}
+use Rattle.rules.specs.Walk.{Out, finished, fieldOut, fieldsOut, visitOut}
 use Rattle.laws.proofs.Counts.{fresh, fresh-set}
-use Rattle.laws.proofs.Chains.{Good}
 use Rattle.errors.specs.declared.Errors.{Errors}
 use Rattle.errors.specs.Sink.{Reported, also, none, meant}
 use Rattle.toposort.specs.declared.Walk.{Walk}
 use Rattle.toposort.specs.State.{Did, Done, Visits, Room}
-use Rattle.toposort.proofs.Parts.{sets-append, did-still, did-join, Spends, spends-visit, spends-first, room-after, room-less}
+use Rattle.toposort.proofs.Parts.{sets-append, did-still, did-join, Spends, Bounded, spends-first, room-after, room-less}
 
 -- ## One field
 
@@ -84,7 +83,7 @@ and-assoc : (a b c : Bool) → (a && b) && c ≡ a && (b && c)
 and-assoc true b c = refl
 and-assoc false b c = refl
 
-module _ (G : Graph) (good : Good G 255) (few : (i : ℕ) → T (G .struct i) → G .fields i ≤ 64) {b : List ℕ} {i : ℕ} {v₀ : Walk} {n k : ℕ} {b′ : List ℕ} {v : Walk} (g : Going G b i v₀ n k b′ v) where
+module _ {G : Graph} (lim : Bounded G) {b : List ℕ} {i : ℕ} {v₀ : Walk} {n k : ℕ} {b′ : List ℕ} {v : Walk} (g : Going G b i v₀ n k b′ v) where
   enough : ℕ
   enough = suc (fresh (v₀ .marks))
 
@@ -97,7 +96,7 @@ module _ (G : Graph) (good : Good G 255) (few : (i : ℕ) → T (G .struct i) �
 
   spent : Spends k (v₀ .marks) so-far
   unfolding so-far
-  spent = spends-first G good few enough i k (omega (arith, g .all, g .upto)) (v₀ .marks) (g .long)
+  spent = spends-first lim enough i k (omega (arith, g .all, g .upto)) (v₀ .marks) (g .long)
 
   marks-fresh : fresh (v .marks) ≡ fresh (so-far .marks)
   marks-fresh = ap fresh (did .marks)
@@ -107,9 +106,6 @@ module _ (G : Graph) (good : Good G 255) (few : (i : ℕ) → T (G .struct i) �
 
   pub going-fresh : fresh (v .marks) ≤ fresh (v₀ .marks)
   going-fresh = omega (arith, marks-fresh, spent .places)
-
-  pub going-long : length (v .marks) ≡ 255
-  going-long = ap length (did .marks) ∙ spent .long ∙ g .long
 
   pub going-len : v .len < 255
   going-len = omega (arith, did .len, spent .places, g .place)
@@ -123,7 +119,8 @@ module _ (G : Graph) (good : Good G 255) (few : (i : ℕ) → T (G .struct i) �
           let a = fieldsOut (visitOut f G) G i k (v₀ .marks) in
           let p = g .done f hf in
           let l = going-fresh in
-          let q : Stepped b′ v (fieldOut (visitOut f G) G i k (a .marks)) r b″ = subst (λ (x : List ℕ). Stepped b′ v (fieldOut (visitOut f G) G i k x) r b″) (p .did .marks) (d f (omega arith)) in
+          let part : List ℕ → Out = λ x. fieldOut (visitOut f G) G i k x in
+          let q : Stepped b′ v (part (a .marks)) r b″ = subst (λ (x : List ℕ). Stepped b′ v (part x) r b″) (p .did .marks) (d f (omega arith)) in
           rw add-one (record { did = did-join (p .did) (q .did); ok = q .ok ∙ rw (p .ok) })
 
 -- ## A visit
@@ -159,8 +156,8 @@ done-finished w i {a} {v} d =
       ok = d .ok;
     }
 
-pub visit-new : {G : Graph} {b b′ : List ℕ} (w : Walk) (i n k : ℕ) {v : Walk} → getD (w .marks) i 0 ≡ 0 → i < length (w .marks) → Going G b i (entered w i) n k b′ v → n ≤ k
-    → Visits G b w i (closed v i) b′
+pub visit-new : {G : Graph} {b b′ : List ℕ} (w : Walk) (i n k : ℕ) {v : Walk} → getD (w .marks) i 0 ≡ 0 → i < length (w .marks)
+    → Going G b i (entered w i) n k b′ v → n ≤ k → Visits G b w i (closed v i) b′
 unfolding visitOut
 visit-new w i n k e hi g hp zero h = absurd (not-suc-le-zero h)
 visit-new {G} w i n k e hi g hp (suc f) h =

@@ -1,7 +1,7 @@
 -- Rule 3 of the order, with the walk's own messages for the report: message 2 is in them exactly where some chain leads back to its start.
 -- Assumes nothing.
 use Prim.Native.Nat.{ℕ}
-use mathlib.Core.Path.{_≡_, refl, subst}
+use mathlib.Core.Path.{_≡_, refl}
 use mathlib.Core.Logic.{_↔_}
 use mathlib.Core.List.{List, [], _∷_}
 use Rattle.rules.specs.declared.Diagnostic.{Diagnostic}
@@ -16,7 +16,7 @@ use Rattle.laws.proofs.Chains.{Good, Cycle}
 use Rattle.laws.proofs.LastItems.{Fits, good}
 use Rattle.laws.proofs.WalkOrder.{no-code, some-code}
 use Rattle.laws.proofs.Rule3Order.{cycle-is}
-use Rattle.laws.proofs.Rule3Cyclic.{Two, Twos, empty, cons, sort-twos}
+use Rattle.laws.proofs.Rule3Cyclic.{Two, Twos, cons, sort-twos}
 use Rattle.laws.proofs.Due.{order-rule}
 
 -- a list with an entry is not empty

@@ -161,10 +161,10 @@ fn tier_from(s: &[u8], last: &[u8; 256], tiers: &[u8; 255], i: u8) -> u8
     let at = items::rest(s, i as u16);
     let fields = sheet::pair_at(s, at as usize);
     let mut best: u8 = 0;
-    let mut k: u16 = 0;
-    while k < fields {
-        let inner = leads_to(s, last, at, k);
-        k += 1;
+    let mut j: u16 = 0;
+    while j < fields {
+        let inner = leads_to(s, last, at, j);
+        j += 1;
         if inner != 255 {
             let held = tiers[inner as usize];
             best = larger(best, above(held));

@@ -20,7 +20,11 @@ or-requires-5 : tie.Need-or-requires-5
 or-requires-5 c κs = search needs
 
 returns : tie.Need-returns
-returns c = rw (c .before .or4 .ensures, c .before .before .or3 .ensures, c .before .before .before .or2 .ensures, c .before .before .before .before .or .ensures) at (c .or5 .ensures)
+returns c =
+    let c2 = c .before .before in
+    let c3 = c2 .before in
+    let c4 = c3 .before in
+    rw (c .before .or4 .ensures, c2 .or3 .ensures, c3 .or2 .ensures, c4 .or .ensures) at (c .or5 .ensures)
 
 pub is-improper-spec : {M : Type 1} → statement M
 is-improper-spec =

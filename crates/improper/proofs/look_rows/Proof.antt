@@ -24,16 +24,26 @@ loop-holds : tie.Need-loop-holds Inv-loop μ-loop
 loop-holds c = (omega arith, table-none _ _ (length-replicate {A = ℕ} 1024 257))
 
 look-row-requires : tie.Need-look-row-requires Inv-loop μ-loop
-look-row-requires c κs = let p = c .before .before .before .before .before .pre in ((p .0, omega (arith, c .before .before .before .rows .ensures)), (p .1, c .before .before .loop .inv .1))
+look-row-requires c κs =
+    let c2 = c .before .before in
+    let c3 = c2 .before in
+    let c5 = c3 .before .before in
+    let p = c5 .pre in ((p .0, omega (arith, c3 .rows .ensures)), (p .1, c2 .loop .inv .1))
 
 cast-looks : tie.Need-cast-looks Inv-loop μ-loop
 cast-looks c = search needs
 
 mul-looks : tie.Need-mul-looks Inv-loop μ-loop
-mul-looks c = omega (arith, c .before .before .before .before .rows .ensures, few-rows (c .before .before .before .before .before .before .args .s .now) (c .before .before .before .before .before .before .pre .0))
+mul-looks c =
+    let c4 = c .before .before .before .before in
+    let c6 = c4 .before .before in
+    omega (arith, c4 .rows .ensures, few-rows (c6 .args .s .now) (c6 .pre .0))
 
 array-write-looks : tie.Need-array-write-looks Inv-loop μ-loop
-array-write-looks c = omega (arith, c .before .before .before .before .rows .ensures, few-rows (c .before .before .before .before .before .before .args .s .now) (c .before .before .before .before .before .before .pre .0))
+array-write-looks c =
+    let c4 = c .before .before .before .before in
+    let c6 = c4 .before .before in
+    omega (arith, c4 .rows .ensures, few-rows (c6 .args .s .now) (c6 .pre .0))
 
 add-r : tie.Need-add-r Inv-loop μ-loop
 add-r c = search needs
@@ -43,8 +53,11 @@ loop-less c = omega arith
 
 loop-again : tie.Need-loop-again Inv-loop μ-loop
 loop-again c =
-    let s = c .before .before .before .before .before .before .args .s .now in
-    (omega arith, table-on s _ (c .before .before .before .loop .r) _ (c .before .before .before .loop .inv .1) (omega (arith, c .before .before .before .before .rows .ensures, few-rows s (c .before .before .before .before .before .before .pre .0))) (c .look-row .ensures))
+    let c3 = c .before .before .before in
+    let c4 = c3 .before in
+    let c6 = c4 .before .before in
+    let s = c6 .args .s .now in
+    (omega arith, table-on s _ (c3 .loop .r) _ (c3 .loop .inv .1) (omega (arith, c4 .rows .ensures, few-rows s (c6 .pre .0))) (c .look-row .ensures))
 
 returns : tie.Need-returns Inv-loop μ-loop
 returns c =

@@ -1,5 +1,5 @@
--- `improper::search` meets its contract. The invariant: the set is that of the definition's search after as many passes. The measure is the number of names that
--- are not found, and one more while a pass is due.
+-- `improper::search` meets its contract. The invariant: the set is that of the definition's search after as many passes. The measure is the number of names
+-- that are not found, and one more while a pass is due.
 -- Assumes nothing.
 use Prim.Native.Nat.{_+_}
 use borrow.Author.Needs.{needs}
@@ -24,16 +24,27 @@ loop-holds : tie.Need-loop-holds Inv-loop μ-loop
 loop-holds c = searching-start _ _ (c .empty .ensures)
 
 one-pass-requires : tie.Need-one-pass-requires Inv-loop μ-loop
-one-pass-requires c κs = let p = c .before .before .before .before .before .before .pre in record { accepted = p .accepted; rows = c .before .before .before .before .look-rows .ensures; last = p .last }
+one-pass-requires c κs =
+    let c4 = c .before .before .before .before in
+    let c6 = c4 .before .before in
+    let p = c6 .pre in record { accepted = p .accepted; rows = c4 .look-rows .ensures; last = p .last }
 
 loop-less : tie.Need-loop-less Inv-loop μ-loop
-loop-less c = searching-less _ _ _ (c .before .before .before .before .loop .inv) (c .before .before .before .loop-test .taken) _ _ (c .before .one-pass .ensures)
+loop-less c =
+    let c3 = c .before .before .before in
+    let c4 = c3 .before in
+    searching-less _ _ _ (c4 .loop .inv) (c3 .loop-test .taken) _ _ (c .before .one-pass .ensures)
 
 loop-again : tie.Need-loop-again Inv-loop μ-loop
-loop-again c = searching-on _ _ _ (c .before .before .before .before .loop .inv) (c .before .before .before .loop-test .taken) _ _ (c .before .one-pass .ensures)
+loop-again c =
+    let c3 = c .before .before .before in
+    let c4 = c3 .before in
+    searching-on _ _ _ (c4 .loop .inv) (c3 .loop-test .taken) _ _ (c .before .one-pass .ensures)
 
 returns : tie.Need-returns Inv-loop μ-loop
-returns c = searched (c .before .before .before .before .before .args .s .now) (c .before .before .before .before .before .pre .accepted) _ (c .before .loop .inv .done (c .loop-test .left))
+returns c =
+    let c5 = c .before .before .before .before .before in
+    searched (c5 .args .s .now) (c5 .pre .accepted) _ (c .before .loop .inv .done (c .loop-test .left))
 
 pub search-spec : {M : Type 1} → statement M
 search-spec =

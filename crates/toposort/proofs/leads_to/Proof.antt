@@ -1,53 +1,60 @@
+-- `toposort::leads_to` meets its contract, in its three cases: a name that the table has, any other name, and what is no plain name.
+-- Assumes nothing.
 use mathlib.Core.Path.{sym, _∙_}
 use borrow.Author.Needs.{needs}
 use Rattle.toposort.proofs.Edges.{leads-named, leads-far, leads-nowhere}
 use Rattle.toposort.proofs.leads_to.Statement.{statement}
 use Rattle.toposort.proofs.leads_to.Tie as tie
-use Rattle.toposort.proofs.leads_to.Reads as reads
-use Rattle.toposort.proofs.leads_to.Lts as lts
-use Rattle.sheet.proofs.items.entry.Reads as entry-reads
-use Rattle.sheet.proofs.rows.is.Reads as is-reads
-use Rattle.sheet.proofs.rows.row_name.Reads as row-name-reads
 
--- src/lib.rt:46:9
+-- ## What it answers
+
+returns : tie.Need-returns
+returns c i h =
+    let c2 = c .before .before in
+    let c3 = c2 .before in
+    let c4 = c3 .before in
+    let c5 = c4 .before in
+    let c7 = c5 .before .before in
+    let a = c7 .args in
+    let row = c5 .entry .ensures in
+    let is = sym (c4 .is .ensures) ∙ c3 .if1 .taken in
+    leads-named (a .s .now) (a .last .now) (c7 .pre .last) _ (a .at) i (a .k) row h _ is (c2 .row-name .ensures) (c .before .if2 .taken)
+
+returns-2 : tie.Need-returns-2
+returns-2 c i h =
+    let c2 = c .before .before in
+    let c3 = c2 .before in
+    let c4 = c3 .before in
+    let c6 = c4 .before .before in
+    let a = c6 .args in
+    let row = c4 .entry .ensures in
+    let is = sym (c3 .is .ensures) ∙ c2 .if1 .taken in
+    leads-far (a .s .now) (a .last .now) (c6 .pre .last) _ (a .at) i (a .k) row h _ is (c .before .row-name .ensures) (c .if2 .left)
+
+returns-3 : tie.Need-returns-3
+returns-3 c i h =
+    let c2 = c .before .before in
+    let c4 = c2 .before .before in
+    let a = c4 .args in
+    let is = sym (c .before .is .ensures) ∙ c .if1 .left in
+    leads-nowhere (a .s .now) (a .last .now) (c4 .pre .last) _ (a .at) i (a .k) (c2 .entry .ensures) h is
+
+-- ## What it calls and reads
+
 entry-requires : tie.Need-entry-requires
 entry-requires c κs = search needs
 
--- src/lib.rt:47:8
 is-requires : tie.Need-is-requires
 is-requires c κs = search needs
 
--- src/lib.rt:48:20
 row-name-requires : tie.Need-row-name-requires
 row-name-requires c κs = search needs
 
--- src/lib.rt:48:20
 cast-name : tie.Need-cast-name
 cast-name c = search needs
 
--- src/lib.rt:50:20
 element-copy-out-result : tie.Need-element-copy-out-result
 element-copy-out-result c = search needs
-
--- src/lib.rt:50:13
-returns : tie.Need-returns
-returns c i h =
-    let a = c .before .before .before .before .before .before .before in
-    let is = sym (c .before .before .before .before .is .ensures) ∙ c .before .before .before .if1 .taken in
-    leads-named (a .args .s .now) (a .args .last .now) (a .pre .last) _ (a .args .at) i (a .args .k) (c .before .before .before .before .before .entry .ensures) h _ is (c .before .before .row-name .ensures) (c .before .if2 .taken)
-
--- src/lib.rt:43:1
-returns-2 : tie.Need-returns-2
-returns-2 c i h =
-    let a = c .before .before .before .before .before .before in
-    let is = sym (c .before .before .before .is .ensures) ∙ c .before .before .if1 .taken in
-    leads-far (a .args .s .now) (a .args .last .now) (a .pre .last) _ (a .args .at) i (a .args .k) (c .before .before .before .before .entry .ensures) h _ is (c .before .row-name .ensures) (c .if2 .left)
-
--- src/lib.rt:43:1
-returns-3 : tie.Need-returns-3
-returns-3 c i h =
-    let a = c .before .before .before .before in
-    leads-nowhere (a .args .s .now) (a .args .last .now) (a .pre .last) _ (a .args .at) i (a .args .k) (c .before .before .entry .ensures) h (sym (c .before .is .ensures) ∙ c .if1 .left)
 
 pub leads-to-spec : {M : Type 1} → statement M
 leads-to-spec =

@@ -9,7 +9,7 @@ use Rattle.rules.specs.Types.{typesOf}
 use Rattle.rules.specs.Order.{graphOf}
 use Rattle.laws.proofs.Tests.{holds}
 use Rattle.laws.proofs.LastItems.{struct-is}
-use Rattle.toposort.proofs.Edges.{whole, few-fields}
+use Rattle.toposort.proofs.Edges.{bounded}
 use Rattle.toposort.proofs.Sorting.{Sorting, sorting-none, sorting-room, sorting-struct, sorting-other, sorted}
 use Rattle.toposort.proofs.sort.Statement.{statement}
 use Rattle.toposort.proofs.sort.Tie as tie
@@ -35,18 +35,26 @@ visit-requires c κs =
     let acc = c .before .before .before .before .before .before .before .pre .accepted in
     let l = c .before .before .before .before .loop in
     let st = struct-is s (l .i) .0 (holds (sym (c .before .before .is-struct .ensures) ∙ c .before .if1 .taken)) in
-    (c .before .before .before .before .before .before .before .pre, (st, sorting-room (graphOf s (typesOf s)) (whole s acc) (few-fields s acc) (l .inv .1) (c .before .before .before .loop-test .taken)))
+    let room = sorting-room (bounded s acc) (l .inv .1) (c .before .before .before .loop-test .taken) in
+    (c .before .before .before .before .before .before .before .pre, (st, room))
 
 loop-less : tie.Need-loop-less Inv-loop μ-loop
 loop-less c = omega arith
 
 loop-again : tie.Need-loop-again Inv-loop μ-loop
 loop-again c =
-    let s = c .before .before .before .before .before .before .before .before .before .before .args .s .now in
-    let acc = c .before .before .before .before .before .before .before .before .before .before .pre .accepted in
-    let l = c .before .before .before .before .before .before .before .loop in
-    let v = c .before .before .visit in
-    (v .kept .1 .1 .0 ∙ l .inv .0, sorting-struct (graphOf s (typesOf s)) (whole s acc) (few-fields s acc) (l .inv .1) (c .before .before .before .before .before .before .loop-test .taken) _ _ (sym (c .before .before .before .before .before .is-struct .ensures) ∙ c .before .before .before .before .if1 .taken) (v .ensures))
+    let c2 = c .before .before in
+    let c4 = c2 .before .before in
+    let c5 = c4 .before in
+    let c6 = c5 .before in
+    let c7 = c6 .before in
+    let c10 = c7 .before .before .before in
+    let s = c10 .args .s .now in
+    let acc = c10 .pre .accepted in
+    let l = c7 .loop in
+    let v = c2 .visit in
+    let st = sym (c5 .is-struct .ensures) ∙ c4 .if1 .taken in
+    (v .kept .1 .1 .0 ∙ l .inv .0, sorting-struct (bounded s acc) (l .inv .1) (c6 .loop-test .taken) _ _ st (v .ensures))
 
 loop-less-2 : tie.Need-loop-less-2 Inv-loop μ-loop
 loop-less-2 c = omega arith
@@ -56,13 +64,18 @@ loop-again-2 c =
     let s = c .before .before .before .before .before .before .args .s .now in
     let acc = c .before .before .before .before .before .before .pre .accepted in
     let l = c .before .before .before .loop in
-    (l .inv .0, sorting-other (graphOf s (typesOf s)) (whole s acc) (few-fields s acc) (l .inv .1) (c .before .before .loop-test .taken) (sym (c .before .is-struct .ensures) ∙ c .if1 .left))
+    let st = sym (c .before .is-struct .ensures) ∙ c .if1 .left in
+    (l .inv .0, sorting-other (bounded s acc) (l .inv .1) (c .before .before .loop-test .taken) st)
 
 same-length : tie.Need-same-length Inv-loop μ-loop
 same-length c = c .before .before .before .loop .inv .0
 
 returns : tie.Need-returns Inv-loop μ-loop
-returns c = sorted (c .before .before .before .before .before .before .args .s .now) (c .before .before .before .before .before .before .pre .accepted) (c .before .before .before .loop .inv .1) (c .before .before .loop-test .left)
+returns c =
+    let c2 = c .before .before in
+    let c3 = c2 .before in
+    let c6 = c3 .before .before .before in
+    sorted (c6 .args .s .now) (c6 .pre .accepted) (c3 .loop .inv .1) (c2 .loop-test .left)
 
 pub sort-spec : {M : Type 1} → statement M
 sort-spec =

@@ -1,7 +1,7 @@
--- `toposort::tiers` meets its contract. The invariant: the items of the first p places of the order have their tiers. The measure is what is left of the places.
+-- `toposort::tiers` meets its contract. The invariant: the items of the first p places of the order have their tiers. The measure is what is left of them.
 -- Assumes nothing.
-use Prim.Native.Nat.{ℕ, _-_, _≤_}
-use mathlib.Core.Path.{_≡_, refl, sym, ap, _∙_}
+use Prim.Native.Nat.{_-_, _≤_}
+use mathlib.Core.Path.{_≡_}
 use lib.ListN.{replicate}
 use native.Mathlib.Omega.{arith}
 use borrow.Author.Needs.{needs}
@@ -36,13 +36,19 @@ tier-from-requires c κs = c .before .before .before .before .before .before .pr
 
 cast-tiers : tie.Need-cast-tiers Inv-loop μ-loop
 cast-tiers c =
-    let a = c .before .before .before .before .before .before .before in
-    omega (arith, place-below (a .args .s .now) (a .pre .0 .accepted) (a .args .order .now) (a .args .len) (a .pre .1) (c .before .before .before .before .loop .p) (c .before .before .before .loop-test .taken))
+    let c3 = c .before .before .before in
+    let c4 = c3 .before in
+    let c7 = c4 .before .before .before in
+    let a = c7 in
+    omega (arith, place-below (a .args .s .now) (a .pre .0 .accepted) (a .args .order .now) (a .args .len) (a .pre .1) (c4 .loop .p) (c3 .loop-test .taken))
 
 array-write-tiers : tie.Need-array-write-tiers Inv-loop μ-loop
 array-write-tiers c =
-    let a = c .before .before .before .before .before .before .before in
-    place-below (a .args .s .now) (a .pre .0 .accepted) (a .args .order .now) (a .args .len) (a .pre .1) (c .before .before .before .before .loop .p) (c .before .before .before .loop-test .taken)
+    let c3 = c .before .before .before in
+    let c4 = c3 .before in
+    let c7 = c4 .before .before .before in
+    let a = c7 in
+    place-below (a .args .s .now) (a .pre .0 .accepted) (a .args .order .now) (a .args .len) (a .pre .1) (c4 .loop .p) (c3 .loop-test .taken)
 
 add-p : tie.Need-add-p Inv-loop μ-loop
 add-p c = search needs
@@ -52,12 +58,15 @@ loop-less c = omega arith
 
 loop-again : tie.Need-loop-again Inv-loop μ-loop
 loop-again c =
-    let s = c .before .before .before .before .before .before .before .args .s .now in
-    (omega arith, tiers-on (graphOf s (typesOf s)) (c .before .before .before .before .before .before .before .args .order .now) _ _ (c .before .before .before .before .loop .p) _ (c .before .before .before .before .loop .inv .1) (c .tier-from .ensures))
+    let c4 = c .before .before .before .before in
+    let c7 = c4 .before .before .before in
+    let s = c7 .args .s .now in
+    (omega arith, tiers-on (graphOf s (typesOf s)) (c7 .args .order .now) _ _ (c4 .loop .p) _ (c4 .loop .inv .1) (c .tier-from .ensures))
 
 returns : tie.Need-returns Inv-loop μ-loop
 returns c =
-    let a = c .before .before .before .before in
+    let c4 = c .before .before .before .before in
+    let a = c4 in
     let l = c .before .loop in
     tiers-end (a .args .s .now) (a .pre .0 .accepted) (a .args .order .now) (a .args .len) (a .pre .1) _ (l .p) (l .inv .0) (c .loop-test .left) (l .inv .1)
 

@@ -1,6 +1,6 @@
 -- `toposort::unknown_tiers` meets its contract. The invariant: the items before i are entered. The measure is what is left of the 255 items.
 -- Assumes nothing.
-use Prim.Native.Nat.{ℕ, _-_, _≤_}
+use Prim.Native.Nat.{_-_, _≤_}
 use mathlib.Core.Path.{_≡_, refl, sym, ap, _∙_}
 use lib.ListN.{replicate}
 use native.Mathlib.Omega.{arith}
