@@ -19,6 +19,7 @@ use Rattle.laws.proofs.Chains.{Good, Edge}
 use Rattle.rules.specs.Order.{leadsTo, graphOf}
 use Rattle.rules.specs.Rule3.{IsStruct, LastStruct, Holds}
 use Rattle.laws.proofs.Counts.{Eq?, same, other, eq?, eqb-true}
+use Rattle.laws.proofs.Tests.{and-left, and-right, and-both}
 
 -- what rule 3 needs of an accepted sheet
 pub record Fits (s : List ℕ) : Type 0 where
@@ -78,18 +79,6 @@ module _ (s : List ℕ) (p : ℕ → Bool) where
       go false e q ih = widen k n (λ u. absurd (subst T e u)) ih
 
 -- ## Struct items
-
-and-left : (a b : Bool) → T (a && b) → T a
-and-left true b t = tt
-and-left false b t = t
-
-and-right : (a b : Bool) → T (a && b) → T b
-and-right true b t = t
-and-right false b t = absurd t
-
-and-both : (a b : Bool) → T a → T b → T (a && b)
-and-both true b t u = u
-and-both false b t u = t
 
 module _ (s : List ℕ) where
   kind-true : (i : ℕ) → itemKind s i ≡ Struct → T (itemIs s Struct i)

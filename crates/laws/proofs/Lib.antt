@@ -1,5 +1,8 @@
 pub mod Chains
 pub mod Counts
+pub mod Tests
+pub mod Sums
+pub mod Members
 pub mod ChainLaws
 pub mod WalkInvariant
 pub mod WalkOrder
@@ -18,4 +21,5 @@ pub mod Rule3Cyclic
 pub mod SetMembers
 pub mod Rule3Improper
 pub mod Accepted
+pub mod Collect
 pub mod Due

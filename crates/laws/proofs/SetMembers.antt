@@ -16,6 +16,7 @@ use Rattle.rules.specs.Rule3.{Borne}
 use Rattle.laws.proofs.Counts.{Eq?, same, other, eq?}
 use Rattle.laws.proofs.NameSets.{has-add, length-add, has-empty}
 use Rattle.laws.proofs.LastItems.{Fits, kind-type}
+use Rattle.laws.proofs.Tests.{or-cases, or-left, or-right}
 
 -- one of the first k items that pass bears the name n
 pub record Member (s : List ℕ) (p : ℕ → Bool) (k n : ℕ) : Type 0 where
@@ -23,18 +24,6 @@ pub record Member (s : List ℕ) (p : ℕ → Bool) (k n : ℕ) : Type 0 where
   pub below : item < k
   pub passes : T (p item)
   pub bears : itemName s item ≡ n
-
-or-cases : (a b : Bool) → T (a || b) → T a ⊎ T b
-or-cases true b t = inl tt
-or-cases false b t = inr t
-
-or-left : (a b : Bool) → T a → T (a || b)
-or-left true b t = tt
-or-left false b t = absurd t
-
-or-right : (a b : Bool) → T b → T (a || b)
-or-right true b t = tt
-or-right false b t = t
 
 module _ (s : List ℕ) (p : ℕ → Bool) where
   pub length-names : (k : ℕ) → length (namesTo s p k) ≡ 4
