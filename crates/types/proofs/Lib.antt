@@ -1,3 +1,4 @@
-pub mod Members
+pub mod Room
 pub mod Stored
 pub mod Zeroed
+pub mod Walking

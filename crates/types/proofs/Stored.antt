@@ -19,8 +19,9 @@ use Rattle.rules.specs.Names.{bitOf, add, _∋_}
 use Rattle.laws.proofs.Counts.{free}
 use Rattle.laws.proofs.Lists.{over-length, over-get}
 use Rattle.laws.proofs.NameSets.{has-add}
-use Rattle.types.specs.Scratch.{rowsOf, marked, among, Holds, Grown}
-use Rattle.types.proofs.Members.{both, or-false, among-snoc, room-less}
+use Rattle.laws.proofs.Tests.{both}
+use Rattle.types.specs.Scratch.{rowsOf, marked, Holds, Grown}
+use Rattle.types.proofs.Room.{or-false, seen-snoc, room-less}
 
 -- ## A bit of a byte
 
@@ -129,7 +130,7 @@ module _ (b : List ℕ) (n r : ℕ) (l : 2304 ≤ length b) (n< : n < 1024) (r< 
       record {
         held = record {
           are = rw (add-one n) last;
-          marks = λ q g. noted-marks d long q g ∙ ap (λ (t : Bool). t || eqb r q) (stored-marks q ∙ h .marks q g) ∙ sym (among-snoc all r q);
+          marks = λ q g. noted-marks d long q g ∙ ap (λ (t : Bool). t || eqb r q) (stored-marks q ∙ h .marks q g) ∙ sym (seen-snoc all r q);
           room = omega arith;
         };
         kept = λ i g. noted-other d i (λ t. omega arith) ∙ stored-other i (λ t. omega arith) (λ t. omega arith);

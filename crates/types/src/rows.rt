@@ -6,7 +6,28 @@ ghost use Prim.Native.Nat.{ℕ, suc, _+_, _*_, _/_, _%_, _^_, _<_, _≤_};
 ghost use lib.Bits.{bitOr};
 ghost use lib.Dec.{eqb};
 ghost use lib.ListN.{length, getD, set};
-ghost use Rattle.types.specs.Scratch.{rowsOf, marked, Holds, Grown};
+ghost use Rattle.rules.specs.Base.{over};
+ghost use Rattle.rules.specs.View.{rows, orNothing, fnReturn, fnArgs, entries, args, return};
+ghost use Rattle.rules.specs.Collect.{shownBy};
+ghost use Rattle.rules.specs.Types.{typesOf};
+ghost use Rattle.laws.proofs.Collect.Shown.{leaf};
+ghost use Rattle.types.specs.Scratch.{
+  rowsOf,
+  marked,
+  Holds,
+  Grown,
+  Held,
+  Ready,
+  ReadyFn,
+  ReadyOrNone,
+  ReadyList,
+  ReadyItem,
+  ReadyFunction,
+  Walks,
+};
+use sheet::functions;
+use sheet::items;
+use sheet::logic::or;
 
 // Whether row r is marked.
 fn seen(scratch: &[u8], r: u16) -> bool
@@ -47,4 +68,52 @@ fn add(scratch: &mut [u8], n: usize, r: u16) -> usize
     put(scratch, n, r);
     mark(scratch, r);
     n + 1
+}
+
+// Whether rows of kind k refer to nothing: Ident, Str and Void.
+fn leaf(k: u16) -> bool
+    ensures { λ x. ⌜ x ≡ leaf k ⌝ }
+{
+    or(or(k == 0, k == 9), k == 13)
+}
+
+// Collects a row after the n rows that the scratch holds, and then what it refers to. A row that was seen is not walked again.
+fn visit_type(s: &[u8], scratch: &mut [u8], n: usize, row: u16) -> usize
+    requires { ⌜ Ready (now s) (now scratch) n row ⌝ }
+    ensures { λ m. ⌜ Walks (now (s .entry)) (now (scratch .entry)) (now (scratch .exit)) n (suc row) (row ∷ []) m ⌝ }
+{
+    if seen(scratch, row) {
+        return n;
+    }
+    let m = add(scratch, n, row);
+    let k = sheet::rows::kind(s, row);
+    if leaf(k) {
+        return m;
+    }
+    if k == 12 {
+        return visit_signature(s, scratch, m, row);
+    }
+    let inner = sheet::rows::inner(s, row);
+    visit_type(s, scratch, m, inner)
+}
+
+// Collects what an Fn row refers to: its return before its arguments.
+fn visit_signature(s: &[u8], scratch: &mut [u8], n: usize, row: u16) -> usize
+    requires { ⌜ ReadyFn (now s) (now scratch) n row ⌝ }
+    ensures { λ m. ⌜ Walks (now (s .entry)) (now (scratch .entry)) (now (scratch .exit)) n row (orNothing (fnReturn (now (s .entry)) row) ++ fnArgs (now (s .entry)) row) m ⌝ }
+{
+    let mut m = n;
+    let result = sheet::rows::fn_return(s, row);
+    if result != 65535 {
+        m = visit_type(s, scratch, m, result);
+    }
+    let args = sheet::offset(s, row as u32) as u32 + 6;
+    let count = sheet::pair_at(s, args as usize);
+    let mut j = 0;
+    while j < count {
+        let arg = items::entry(s, args, j);
+        m = visit_type(s, scratch, m, arg);
+        j += 1;
+    }
+    m
 }
