@@ -2,3 +2,4 @@ pub mod Room
 pub mod Stored
 pub mod Zeroed
 pub mod Walking
+pub mod Showing

@@ -117,3 +117,80 @@ fn visit_signature(s: &[u8], scratch: &mut [u8], n: usize, row: u16) -> usize
     }
     m
 }
+
+// Collects the rows of the list at a place.
+fn visit_list(s: &[u8], scratch: &mut [u8], n: usize, at: u32) -> usize
+    requires { ⌜ ReadyList (now s) (now scratch) n at ⌝ }
+    ensures { λ m. ⌜ Walks (now (s .entry)) (now (scratch .entry)) (now (scratch .exit)) n (rows (now (s .entry))) (entries (now (s .entry)) at) m ⌝ }
+{
+    let mut m = n;
+    let count = sheet::pair_at(s, at as usize);
+    let mut j = 0;
+    while j < count {
+        let row = items::entry(s, at, j);
+        m = visit_type(s, scratch, m, row);
+        j += 1;
+    }
+    m
+}
+
+// Collects a row, or none.
+fn visit_return(s: &[u8], scratch: &mut [u8], n: usize, row: u16) -> usize
+    requires { ⌜ ReadyOrNone (now s) (now scratch) n row ⌝ }
+    ensures { λ m. ⌜ Walks (now (s .entry)) (now (scratch .entry)) (now (scratch .exit)) n (rows (now (s .entry))) (orNothing row) m ⌝ }
+{
+    if row == 65535 {
+        return n;
+    }
+    visit_type(s, scratch, n, row)
+}
+
+// Collects what a function shows: its arguments before its return.
+fn visit_function(s: &[u8], scratch: &mut [u8], n: usize, i: u16) -> usize
+    requires { ⌜ ReadyFunction (now s) (now scratch) n i ⌝ }
+    ensures { λ m. ⌜ Walks (now (s .entry)) (now (scratch .entry)) (now (scratch .exit)) n (rows (now (s .entry))) (args (now (s .entry)) i ++ orNothing (return (now (s .entry)) i)) m ⌝ }
+{
+    let at = functions::return_place(s, i);
+    let m = visit_list(s, scratch, n, at + 2);
+    let row = sheet::pair_at(s, at as usize);
+    visit_return(s, scratch, m, row)
+}
+
+// Collects what item i shows.
+fn visit_item(s: &[u8], scratch: &mut [u8], n: usize, i: u16) -> usize
+    requires { ⌜ ReadyItem (now s) (now scratch) n i ⌝ }
+    ensures { λ m. ⌜ Walks (now (s .entry)) (now (scratch .entry)) (now (scratch .exit)) n (rows (now (s .entry))) (shownBy (now (s .entry)) i) m ⌝ }
+{
+    let k = items::item_kind(s, i);
+    if k == 1 {
+        let fields = items::rest(s, i);
+        return visit_list(s, scratch, n, fields);
+    }
+    if k == 2 {
+        let repr = items::enum_repr(s, i);
+        return visit_type(s, scratch, n, repr);
+    }
+    if or(k == 5, k == 6) {
+        return visit_function(s, scratch, n, i);
+    }
+    if k == 8 {
+        let row = items::impl_row(s, i);
+        return visit_type(s, scratch, n, row);
+    }
+    n
+}
+
+// Collects the rows of the whole sheet, item after item, into a scratch that holds none. The answer is how many they are.
+pub fn visit_items(s: &[u8], scratch: &mut [u8]) -> usize
+    requires { ⌜ Held (now s) (now scratch) 0 ⌝ }
+    ensures { λ m. ⌜ Grown (now (scratch .entry)) (now (scratch .exit)) m (typesOf (now (s .entry)) .all) ⌝ }
+{
+    let count = items::items(s);
+    let mut n = 0;
+    let mut i = 0;
+    while i < count {
+        n = visit_item(s, scratch, n, i);
+        i += 1;
+    }
+    n
+}
