@@ -15,6 +15,7 @@ pub mod TierPass
 pub mod TierRule
 pub mod ImproperSearch
 pub mod NameSets
+pub mod Sets
 pub mod LastItems
 pub mod Rule3Order
 pub mod Rule3Cyclic
@@ -22,4 +23,5 @@ pub mod SetMembers
 pub mod Rule3Improper
 pub mod Accepted
 pub mod Collect
+pub mod Bounds
 pub mod Due

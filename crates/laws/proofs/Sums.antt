@@ -82,6 +82,27 @@ unfolding sumTo
 sum-const zero c = omega arith
 sum-const (suc k) c = omega (arith, sum-const k c)
 
+-- a sum from its first number on, and in two parts
+pub sum-first : (n : ℕ) (a : ℕ → ℕ) → sumTo (suc n) a ≡ a 0 + sumTo n (λ k. a (suc k))
+unfolding sumTo
+sum-first zero a = omega arith
+sum-first (suc n) a = omega (arith, sum-first n a)
+
+pub sum-split : (m n : ℕ) (a : ℕ → ℕ) → sumTo (m + n) a ≡ sumTo m a + sumTo n (λ k. a (m + k))
+unfolding sumTo
+sum-split m zero a = let e : m + 0 ≡ m = omega arith in rw e (omega arith)
+sum-split m (suc n) a = let e : m + suc n ≡ suc (m + n) = omega arith in rw e (omega (arith, sum-split m n a))
+
+-- what is 0 from m on adds nothing
+pub sum-cut : (m n : ℕ) (a : ℕ → ℕ) → m ≤ n → ((x : ℕ) → m ≤ x → a x ≡ 0) → sumTo n a ≡ sumTo m a
+unfolding sumTo
+sum-cut m zero a l h = let e : 0 ≡ m = omega arith in ap (λ k. sumTo k a) e
+sum-cut m (suc n) a l h = go (eq? m (suc n)) (sum-cut m n a)
+  where
+    go : Eq? m (suc n) → (m ≤ n → ((x : ℕ) → m ≤ x → a x ≡ 0) → sumTo n a ≡ sumTo m a) → sumTo n a + a n ≡ sumTo m a
+    go (same _ e) ih = ap (λ k. sumTo k a) (sym e)
+    go (other _ e) ih = omega (arith, ih (omega arith) h, h n (omega arith))
+
 -- as many numbers below n as stand in a list, each once, are at most n
 pub once-few : (n : ℕ) (l : List ℕ) → ((x : ℕ) → count x l ≤ 1) → ((x : ℕ) → 0 < count x l → x < n) → length l ≤ n
 once-few n l once below =

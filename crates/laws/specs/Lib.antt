@@ -1,2 +1,3 @@
 pub mod Skip
 pub mod Reach
+pub mod Visits
