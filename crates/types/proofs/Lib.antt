@@ -3,3 +3,4 @@ pub mod Stored
 pub mod Zeroed
 pub mod Walking
 pub mod Showing
+pub mod Naming
