@@ -4,3 +4,5 @@ pub mod Zeroed
 pub mod Walking
 pub mod Showing
 pub mod Naming
+pub mod Keys
+pub mod Duplicated

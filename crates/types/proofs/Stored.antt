@@ -15,12 +15,12 @@ use lib.Seq.{getD-set-same, getD-set-other}
 use borrow.Author.Tests.{eq-eqb, ne-eqb, eqb-true, eqb-false}
 use Rattle.rules.specs.Base.{over}
 use Rattle.rules.specs.Format.{pairAt}
-use Rattle.rules.specs.Names.{bitOf, add, _∋_}
+use Rattle.rules.specs.Names.{bitOf}
 use Rattle.laws.proofs.Counts.{free}
 use Rattle.laws.proofs.Lists.{over-length, over-get}
-use Rattle.laws.proofs.NameSets.{has-add}
 use Rattle.laws.proofs.Tests.{both}
 use Rattle.types.specs.Scratch.{rowsOf, marked, Holds, Grown}
+use Rattle.types.proofs.Keys.{bit-set}
 use Rattle.types.proofs.Room.{or-false, seen-snoc, room-less}
 
 -- ## A bit of a byte
@@ -30,16 +30,6 @@ byte-one k l = ap (λ n. n % 256) (one-mul (2 ^ k)) ∙ mod-eq-of-lt (pow-lt l)
   where
     one-mul : (n : ℕ) → 1 * n ≡ n
     one-mul n = omega arith
-
--- the law of sets of names, at the first word
-bit-set : (v i j : ℕ) → i < 8 → j < 8 → eqb (bitOf (bitOr v (2 ^ i)) j) 1 ≡ (eqb j i || eqb (bitOf v j) 1)
-unfolding add _∋_
-bit-set v i j a b =
-    let p : i / 64 ≡ 0 = omega arith in
-    let q : i % 64 ≡ i = omega arith in
-    let x : j / 64 ≡ 0 = omega arith in
-    let y : j % 64 ≡ j = omega arith in
-    rw (p, q, x, y) at (has-add (v ∷ 0 ∷ 0 ∷ 0 ∷ []) i j refl (omega arith))
 
 -- ## The rows
 

@@ -76,15 +76,28 @@ pub record ReadyLasts (s : List ℕ) (i k n : ℕ) (a b c : List ℕ) : Type 0 w
   pub item : Item s i k n
   pub last : Lasts s i a b c
 
-pub record ReadyNames (s : List ℕ) (i k n : ℕ) (t : List ℕ) (names : NameSet) : Type 0 where
-  pub item : Item s i k n
+-- the sets of names, and all names of types
+pub record ReadyNames (s : List ℕ) (i n : ℕ) (t : List ℕ) (names : NameSet) : Type 0 where
+  pub name : n ≡ itemName s i
   pub sets : Named s i t
   pub known : Known s i names
 
+-- the functions
 pub record ReadyKeys (s : List ℕ) (i k n : ℕ) (w : List ℕ) : Type 0 where
   pub item : Item s i k n
   pub keys : w ≡ keysTo s i
 
-pub record ReadyKey (s : List ℕ) (i k n : ℕ) (w : List ℕ) : Type 0 where
-  pub ready : ReadyKeys s i k n w
+-- the same, where the item is a function
+pub record ReadyFunction (s : List ℕ) (i n : ℕ) (w : List ℕ) : Type 0 where
+  pub accepted : Accepted s
+  pub below : i < items s
   pub is-function : isFunction s i ≡ true
+  pub name : n ≡ itemName s i
+  pub keys : w ≡ keysTo s i
+
+-- all of it
+pub record ReadyItem (s : List ℕ) (i k n : ℕ) (t : List ℕ) (names : NameSet) (w : List ℕ) : Type 0 where
+  pub item : Item s i k n
+  pub sets : Named s i t
+  pub known : Known s i names
+  pub keys : w ≡ keysTo s i

@@ -5,6 +5,7 @@ ghost use lib.ListN.{length};
 ghost use Rattle.rules.specs.Format.{pairAt};
 ghost use Rattle.rules.specs.Answer.{cleared};
 
+mod duplicates; // message 1
 mod tables; // the sets of names, and the last items
 mod rows; // the rows that the items show, in preorder
 
