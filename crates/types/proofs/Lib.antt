@@ -6,3 +6,4 @@ pub mod Showing
 pub mod Naming
 pub mod Keys
 pub mod Duplicated
+pub mod Passing

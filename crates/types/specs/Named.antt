@@ -11,8 +11,10 @@ use Rattle.rules.specs.Base.{if_then_else_}
 use Rattle.rules.specs.Format.{Accepted}
 use Rattle.rules.specs.Names.{Words, empty, add, nameSelf}
 use Rattle.rules.specs.View.{items, itemKind, isType, isFunction, itemName, isFree, selfType}
-use Rattle.rules.specs.Collect.{namesTo, lastTo, entersStructs, entersEnums, entersCxx, entersRust, entersAliases, entersUntrusted}
+use Rattle.rules.specs.Collect.{namesTo, lastTo, entersStructs, entersEnums, entersCxx, entersRust, entersAliases, entersUntrusted, duplicates}
 use Rattle.names.specs.Table.{wordsAt}
+use Rattle.errors.specs.declared.Errors.{Errors}
+use Rattle.errors.specs.Sink.{Reported}
 
 -- `after` is `before` with name n added to set k, if so, and all other sets as they were
 pub record EnteredIf (before : List ℕ) (k : ℕ) (yes : Bool) (n : ℕ) (after : List ℕ) : Type 0 where
@@ -101,3 +103,17 @@ pub record ReadyItem (s : List ℕ) (i k n : ℕ) (t : List ℕ) (names : NameSe
   pub sets : Named s i t
   pub known : Known s i names
   pub keys : w ≡ keysTo s i
+
+-- ## The whole pass
+
+-- it begins with empty sets and no last items
+pub record ReadyTables (s t a b c : List ℕ) : Type 0 where
+  pub accepted : Accepted s
+  pub sets : Named s 0 t
+  pub last : Lasts s 0 a b c
+
+-- and ends with those of all items, and their duplicates reported
+pub record Declared (s t a b c : List ℕ) (out : List ℕ) (cx : Errors) (out′ : List ℕ) (cx′ : Errors) : Type 0 where
+  pub sets : Named s (items s) t
+  pub last : Lasts s (items s) a b c
+  pub reported : Reported out cx (duplicates s) cx′ out′

@@ -6,7 +6,9 @@ ghost use lib.Dec.{eqb, leb};
 ghost use lib.ListN.{length, set};
 ghost use Rattle.rules.specs.Base.{if_then_else_};
 ghost use Rattle.rules.specs.Names.{add};
-ghost use Rattle.types.specs.Named.{EnteredIf, ReadySets, Named, ReadyLasts, Lasts, ReadyNames, Known};
+ghost use Rattle.types.specs.Named.{EnteredIf, ReadySets, Named, ReadyLasts, Lasts, ReadyTables, Declared};
+use crate::duplicates;
+use errors::Errors;
 use rules::NameSet;
 use sheet::items;
 use sheet::logic::and;
@@ -93,4 +95,36 @@ fn enter_known(known: NameSet, k: u16, n: u16) -> NameSet
         return names::insert(known, n);
     }
     known
+}
+
+// One pass over the items: the sets of names, each name's last items, and message 1, by what was declared before each item.
+pub fn collect_names(
+    s: &[u8],
+    sets: &mut [u64; 28],
+    last_struct: &mut [u8; 256],
+    last_untrusted: &mut [u8; 256],
+    last_type: &mut [u8; 256],
+    cx: Errors,
+    out: &mut [u64],
+) -> Errors
+    requires { ⌜ ReadyTables (now s) (now sets) (now «last_struct») (now «last_untrusted») (now «last_type») ⌝ }
+    ensures { λ r. ⌜ Declared (now (s .entry)) (now (sets .exit)) (now («last_struct» .exit)) (now («last_untrusted» .exit)) (now («last_type» .exit)) (now (out .entry)) cx (now (out .exit)) r ⌝ }
+{
+    let count = items::items(s);
+    let mut cx = cx;
+    let mut known = names::empty();
+    let mut keys = [0u64; 1028];
+    let mut i = 0;
+    while i < count {
+        let k = items::item_kind(s, i);
+        let n = items::item_name(s, i);
+        let again = duplicates::duplicate(s, sets, known, &keys, i, k, n);
+        cx = errors::at::item_error(cx, out, again, 1, i, 0);
+        known = enter_known(known, k, n);
+        enter_sets(s, sets, i, k, n);
+        enter_lasts(s, last_struct, last_untrusted, last_type, i, k, n);
+        duplicates::enter_function(s, &mut keys, i, k, n);
+        i += 1;
+    }
+    cx
 }
