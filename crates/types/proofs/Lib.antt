@@ -7,3 +7,4 @@ pub mod Naming
 pub mod Keys
 pub mod Duplicated
 pub mod Passing
+pub mod Counting

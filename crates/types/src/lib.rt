@@ -7,6 +7,7 @@ ghost use Rattle.rules.specs.Answer.{cleared};
 
 mod duplicates; // message 1
 mod tables; // the sets of names, and the last items
+mod reasons; // reasons to be trivial
 mod rows; // the rows that the items show, in preorder
 
 // The first 4,096 bytes become 0.

@@ -29,7 +29,7 @@ pub fn is_function(k: u16) -> bool
 }
 
 // Adds name n to set k of the table, if so.
-fn enter_if(sets: &mut [u64; 28], k: usize, yes: bool, n: u16)
+pub fn enter_if(sets: &mut [u64; 28], k: usize, yes: bool, n: u16)
     requires { ⌜ (k < 7) × (length (now sets) ≡ 28) ⌝ }
     ensures { λ _. ⌜ EnteredIf (now (sets .entry)) k yes n (now (sets .exit)) ⌝ }
 {
