@@ -8,3 +8,4 @@ pub mod Keys
 pub mod Duplicated
 pub mod Passing
 pub mod Counting
+pub mod Whole
