@@ -71,9 +71,11 @@ loop-less c = omega (arith, (c .before .before .before .before .before .before .
 loop-again : tie.Need-loop-again Inv-loop μ-loop
 loop-again c =
     let l = (c .before .before .before .before .before .before .before .before .before .before .before .before .before .before .before .before .before .before .before .loop) in
-    let h = item-is (c .before .before .before .before .before .before .before .before .before .before .before .before .before .before .before .before .before .before .before .before .before .before .before .before .pre .accepted) (c .before .before .before .before .before .before .before .before .before .before .before .before .before .before .before .before .before .before .before .before .before .items .ensures) (c .before .before .before .before .before .before .before .before .before .before .before .before .before .before .before .before .before .before .loop-test .taken) (c .before .before .before .before .before .before .before .before .before .before .before .before .before .before .before .before .before .item-kind .ensures) (c .before .before .before .before .before .before .before .before .before .before .before .before .before .before .before .before .item-name .ensures) in
-    (omega (arith, (c .before .before .before .before .before .before .before .before .before .before .before .before .before .before .before .before .before .before .loop-test .taken)), pass-turn h (l .inv .1) (c .before .before .before .before .before .before .before .before .before .before .before .before .before .duplicate .ensures) (c .before .before .before .before .before .before .before .before .before .before .before .item-error .ensures) ((c .before .before .before .before .before .before .before .before .before .before .before .item-error .kept .1 .0)) (c .before .before .before .before .before .before .before .before .enter-known .ensures) (c .before .before .before .before .before .before .enter-sets .ensures)
-    (c .before .before .enter-lasts .ensures) (c .enter-function .ensures))
+    let h = item-is (c .before .before .before .before .before .before .before .before .before .before .before .before .before .before .before .before .before .before .before .before .before .before .before .before .pre .accepted) (c .before .before .before .before .before .before .before .before .before .before .before .before .before .before .before .before .before .before .before .before .before .items .ensures) (c .before .before .before .before .before .before .before .before .before .before .before .before .before .before .before .before .before .before .loop-test .taken) (c .before .before .before .before .before .before .before .before .before .before .before .before .before .before .before .before .before .item-kind .ensures) (c .before .before .before .before .before .before .before .before .before .before .before .before .before .before .before .before .item-name .ensures) in (
+      omega (arith, (c .before .before .before .before .before .before .before .before .before .before .before .before .before .before .before .before .before .before .loop-test .taken)),
+      pass-turn h (l .inv .1) (c .before .before .before .before .before .before .before .before .before .before .before .before .before .duplicate .ensures) (c .before .before .before .before .before .before .before .before .before .before .before .item-error .ensures) ((c .before .before .before .before .before .before .before .before .before .before .before .item-error .kept .1 .0)) (c .before .before .before .before .before .before .before .before .enter-known .ensures) (c .before .before .before .before .before .before .enter-sets .ensures)
+          (c .before .before .enter-lasts .ensures) (c .enter-function .ensures),
+    )
 
 same-length : tie.Need-same-length Inv-loop μ-loop
 same-length c = (c .before .loop .inv .1 .same)
