@@ -1,0 +1,139 @@
+-- The type rows of an accepted sheet, by kinds: each refers to smaller rows only.
+-- Assumes nothing.
+use Prim.Native.Nat.{ℕ, zero, suc, _+_, _*_, _≤_, _<_}
+use mathlib.Core.Path.{_≡_, refl, sym, ap, _∙_}
+use mathlib.Core.List.{List, [], _∷_}
+use mathlib.Core.Bool.{Bool, true, false}
+use native.Mathlib.Omega.{arith}
+use lib.ListN.{getD}
+use borrow.Author.Tests.{lt-leb, le-leb}
+use Rattle.rules.specs.declared.Step.{Step}
+use Rattle.rules.specs.declared.Step.the-variants.{Next}
+use Rattle.rules.specs.Base.{if_then_else_}
+use Rattle.rules.specs.Format.{after, pairAt, offset, limited, flagged, signature, rowKinds, bodyOf, row, Accepted}
+use Rattle.rules.specs.View.{Ident, Ref, Ptr, SliceRef, Array, Fn, rows, kind, rowName, rowFlags, inner, fnReturn, fnArgCount, fnArg, past}
+use Rattle.laws.proofs.Accepted.Steps.{no, after-is, Reads, _then_, RowOrNone, ListAt, limited-reads, orNone-reads, list-reads}
+use Rattle.laws.proofs.Accepted.Sheet.{Bodies, bodies-of}
+
+-- kinds 1 to 8, 10 and 11: one row stands inside
+abbrev pub hasInner : (kind : ℕ) → Bool
+hasInner k = getD (false ∷ true ∷ true ∷ true ∷ true ∷ true ∷ true ∷ true ∷ true ∷ false ∷ true ∷ true ∷ []) k false
+
+pub record RowOf (s : List ℕ) (r : ℕ) : Type 0 where
+  pub known : kind s r < 14
+  pub named : kind s r ≡ Ident → rowName s r < 256
+  pub inner-falls : (k : ℕ) → hasInner k ≡ true → kind s r ≡ k → inner s r < r
+  pub ref-flags : kind s r ≡ Ref → rowFlags s r < 4
+  pub ptr-flags : kind s r ≡ Ptr → rowFlags s r < 2
+  pub slice-flags : kind s r ≡ SliceRef → rowFlags s r < 2
+  pub fn-flags : kind s r ≡ Fn → rowFlags s r < 4
+  pub return-falls : kind s r ≡ Fn → RowOrNone r (fnReturn s r)
+  pub few-args : kind s r ≡ Fn → fnArgCount s r ≤ 16
+  pub arg-falls : kind s r ≡ Fn → (j : ℕ) → j < fnArgCount s r → fnArg s r j < r
+
+-- ## What stands behind the kind
+
+module _ (s : List ℕ) (r : ℕ) where
+  record SignatureAt (at : ℕ) : Type 0 where
+    flags : pairAt s at < 4
+    returns : RowOrNone r (pairAt s (at + 2))
+    args : ListAt s 16 r (at + 4)
+
+  signature-reads : Reads (signature s r) (λ at q. SignatureAt at × (q ≡ past s (at + 4)))
+  unfolding signature
+  signature-reads =
+      record {
+        of = λ at h.
+            let a = (limited-reads s 6 4 then orNone-reads s r then list-reads s 16 7 r) .of at h in
+            let p : a .1 .0 ≡ at + 2 = a .1 .1 .1 in
+            let q : a .0 ≡ at + 4 = omega (arith, a .1 .2 .1) in
+            (record { flags = a .1 .1 .0; returns = rw p at (a .1 .2 .0); args = rw q at (a .2 .0) }, rw q at (a .2 .1));
+      }
+
+  flagged-reads : (n : ℕ) → Reads (flagged s n r) (λ at q. ((pairAt s at < n) × (pairAt s (at + 2) < r)) × (q ≡ at + 4))
+  unfolding flagged
+  flagged-reads n =
+      record {
+        of = λ at h.
+            let a = (limited-reads s 6 n then limited-reads s 7 r) .of at h in
+            ((a .1 .0, rw (a .1 .1) at (a .2 .0)), omega (arith, a .1 .1, a .2 .1));
+      }
+
+-- ## Row r of an accepted sheet
+
+module _ (s : List ℕ) (acc : Accepted s) (r : ℕ) (l : r < rows s) where
+  from : ℕ
+  from = offset s r + 2
+
+  ending : ℕ
+  ending = bodies-of s acc .start (suc r)
+
+  row-steps : (kind s r < 14) × (bodyOf s r (kind s r) from ≡ Next ending)
+  unfolding row kind from ending
+  row-steps =
+      let b = bodies-of s acc in
+      let h : row s r (offset s r) ≡ Next (b .start (suc r)) = rw (b .row-at r l) (b .row-read r l) in
+      let a = after-is (limited s 6 14 (offset s r)) (bodyOf s r (pairAt s (offset s r))) h in
+      let c = limited-reads s 6 14 .of (offset s r) (a .1) in
+      (c .0, rw (c .1) at (a .2))
+
+  by-kind : (k : ℕ) {m : ℕ → Step} {P : ℕ → ℕ → Type 0} → Reads m P → bodyOf s r k ≡ m → kind s r ≡ k → P from ending
+  by-kind k reads b e = reads .of from (rw (e, b) at (row-steps .1))
+
+  named-is : kind s r ≡ Ident → rowName s r < 256
+  unfolding bodyOf rowKinds rowName from
+  named-is e = by-kind Ident (limited-reads s 6 256) refl e .0
+
+  -- the row inside stands next to the kind
+  near : (k : ℕ) → bodyOf s r k ≡ limited s 7 r → k ≤ 6 → kind s r ≡ k → inner s r < r
+  unfolding inner if_then_else_ from
+  near k b g e = rw (le-leb (kind s r) 6 (rw e g), inner) (by-kind k (limited-reads s 7 r) b e .0)
+
+  -- or behind flags or a length
+  flags-are : (k n : ℕ) → bodyOf s r k ≡ flagged s n r → kind s r ≡ k → rowFlags s r < n
+  unfolding rowFlags from
+  flags-are k n b e = by-kind k (flagged-reads s r n) b e .0 .0
+
+  far : (k n : ℕ) → bodyOf s r k ≡ flagged s n r → 6 < k → kind s r ≡ k → inner s r < r
+  unfolding inner if_then_else_ from
+  far k n b g e =
+      let z : offset s r + 2 + 2 ≡ offset s r + 4 = omega arith in
+      rw (lt-leb (kind s r) 6 (rw e g), inner) (rw z at (by-kind k (flagged-reads s r n) b e .0 .1))
+
+  falls : (k : ℕ) → hasInner k ≡ true → kind s r ≡ k → inner s r < r
+  unfolding bodyOf rowKinds
+  falls zero t = no t
+  falls (suc zero) t = near 1 refl (omega arith)
+  falls (suc (suc zero)) t = near 2 refl (omega arith)
+  falls (suc (suc (suc zero))) t = near 3 refl (omega arith)
+  falls (suc (suc (suc (suc zero)))) t = near 4 refl (omega arith)
+  falls (suc (suc (suc (suc (suc zero))))) t = near 5 refl (omega arith)
+  falls (suc (suc (suc (suc (suc (suc zero)))))) t = near 6 refl (omega arith)
+  falls (suc (suc (suc (suc (suc (suc (suc zero))))))) t = far 7 4 refl (omega arith)
+  falls (suc (suc (suc (suc (suc (suc (suc (suc zero)))))))) t = far 8 2 refl (omega arith)
+  falls (suc (suc (suc (suc (suc (suc (suc (suc (suc zero))))))))) t = no t
+  falls (suc (suc (suc (suc (suc (suc (suc (suc (suc (suc zero)))))))))) t = far 10 2 refl (omega arith)
+  falls (suc (suc (suc (suc (suc (suc (suc (suc (suc (suc (suc zero))))))))))) t = far 11 65536 refl (omega arith)
+  falls (suc (suc (suc (suc (suc (suc (suc (suc (suc (suc (suc (suc k)))))))))))) t = no t
+
+  fn-is : kind s r ≡ Fn → SignatureAt s r from × (ending ≡ past s (from + 4))
+  unfolding bodyOf rowKinds
+  fn-is = by-kind Fn (signature-reads s r) refl
+
+  pub row-of : RowOf s r
+  unfolding bodyOf rowKinds rowFlags fnReturn fnArgCount fnArg from
+  row-of =
+      let y : offset s r + 2 + 2 ≡ offset s r + 4 = omega arith in
+      let z : offset s r + 2 + 4 ≡ offset s r + 6 = omega arith in
+      record {
+        known = row-steps .0;
+        named = named-is;
+        inner-falls = falls;
+        ref-flags = flags-are Ref 4 refl;
+        ptr-flags = flags-are Ptr 2 refl;
+        slice-flags = flags-are SliceRef 2 refl;
+        fn-flags = λ e. fn-is e .0 .flags;
+        return-falls = λ e. rw y at (fn-is e .0 .returns);
+        few-args = λ e. rw z at (fn-is e .0 .args .few);
+        arg-falls = λ e. rw z at (fn-is e .0 .args .each);
+      }
