@@ -1,0 +1,44 @@
+// The numbers of document 01, by their names.
+
+// Kinds of rows.
+pub const IDENT: u16 = 0;
+
+pub const RUST_BOX: u16 = 1;
+
+pub const CXX_VECTOR: u16 = 6;
+
+pub const REF: u16 = 7;
+
+pub const PTR: u16 = 8;
+
+pub const STR: u16 = 9;
+
+pub const SLICE_REF: u16 = 10;
+
+pub const ARRAY: u16 = 11;
+
+pub const FN: u16 = 12;
+
+pub const VOID: u16 = 13;
+
+// Names with a meaning.
+pub const BOOL: u16 = 0;
+
+pub const CHAR: u16 = 1;
+
+pub const CXX_STRING: u16 = 14;
+
+pub const RUST_STRING: u16 = 15;
+
+// Sets of the table.
+pub const STRUCTS: usize = 0;
+
+pub const ENUMS: usize = 1;
+
+pub const CXX: usize = 2;
+
+pub const RUST: usize = 3;
+
+pub const ALIASES: usize = 4;
+
+pub const REQUIRED_TRIVIAL: usize = 6;
