@@ -1,7 +1,13 @@
 -- What is collected, as it stands in the lent tables.
 -- Assumes nothing: these are definitions.
+use Prim.Native.Nat.{ℕ, _<_}
+use mathlib.Core.Path.{_≡_}
 use mathlib.Core.List.{List}
-use Prim.Native.Nat.{ℕ}
+use mathlib.Core.Bool.{Bool, _&&_}
+use lib.ListN.{getD}
+use lib.Dec.{ltb, eqb}
+use Rattle.rules.specs.View.{rows}
+use Rattle.rules.specs.Check.{is-unsized}
 use Rattle.rules.specs.Types.{Types}
 use Rattle.names.specs.Table.{wordsAt}
 
@@ -22,3 +28,13 @@ holding w t =
       lastUntrusted = t .lastUntrusted;
       lastType = t .lastType;
     }
+
+-- ## A table over the rows
+
+-- whether row r is marked; there are at most 1,024 rows
+unfoldable pub marked : (table : List ℕ) (r : ℕ) → Bool
+marked u r = ltb r 1024 && eqb (getD u r 0) 1
+
+-- the table of the rows that are unsized
+abbrev pub UnsizedRows : (s : List ℕ) (t : Types) (table : List ℕ) → Type 0
+UnsizedRows s t u = (r : ℕ) → r < rows s → marked u r ≡ is-unsized s t r

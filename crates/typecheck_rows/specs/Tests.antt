@@ -6,7 +6,10 @@ use mathlib.Core.List.{List}
 use mathlib.Core.Bool.{Bool, not, _&&_, _||_}
 use lib.Dec.{eqb}
 use Rattle.rules.specs.Names.{_∋_, isAtom, nameBool, nameChar, nameCxxString, nameRustString}
-use Rattle.rules.specs.View.{Ident, is, rowName, inner}
+use Rattle.rules.specs.Base.{if_then_else_}
+use Rattle.rules.specs.View.{Ident, RustBox, RustVec, UniquePtr, SharedPtr, WeakPtr, CxxVector, Ref, Ptr, Str, SliceRef, Array, Fn, Void, is, rowName, inner}
+use Rattle.rules.specs.Types.{Types}
+use Rattle.rules.specs.Check.{is-unsized-ident}
 use Rattle.names.specs.Table.{wordsAt}
 
 -- ## A name
@@ -14,6 +17,11 @@ use Rattle.names.specs.Table.{wordsAt}
 -- nothing declares it
 abbrev pub unsupported : (sets : List ℕ) (n : ℕ) → Bool
 unsupported w n = not (isAtom n) && not (wordsAt w 0 ∋ n) && not (wordsAt w 1 ∋ n) && not (wordsAt w 2 ∋ n) && not (wordsAt w 3 ∋ n)
+
+-- a C++ type that is no struct or enum, and no alias that must be trivial
+abbrev pub cxxUnsized : (sets : List ℕ) (n : ℕ) → Bool
+cxxUnsized w n =
+    wordsAt w 2 ∋ n && not (wordsAt w 0 ∋ n) && not (wordsAt w 1 ∋ n) && not (wordsAt w 4 ∋ n && wordsAt w 6 ∋ n)
 
 -- ## What row r holds
 
@@ -33,3 +41,29 @@ module _ (s : List ℕ) (r : ℕ) where
   -- a plain name, and neither a nor b
   abbrev pub otherTarget : (a b : ℕ) → Bool
   otherTarget a b = plain && not (eqb target a || eqb target b)
+
+-- ## Sizes
+
+-- whether a row that is no array is unsized
+unfoldable pub unsizedLeaf : (s : List ℕ) (t : Types) (r : ℕ) → Bool
+unsizedLeaf s t r = if is s Ident r then is-unsized-ident s t (rowName s r) else is s CxxVector r || is s Fn r || is s Void r
+
+-- whether row r is unsized, by the table of smaller rows
+unfoldable pub unsizedRow : (s : List ℕ) (t : Types) (smaller : ℕ → Bool) (r : ℕ) → Bool
+unsizedRow s t smaller r = if is s Array r then smaller (inner s r) else unsizedLeaf s t r
+
+-- `describe` of a row of kind k that is no plain name
+unfoldable pub describeOther : (k : ℕ) → ℕ
+describeOther k =
+    if eqb k RustBox then 9 else
+    if eqb k RustVec then 10 else
+    if eqb k UniquePtr then 11 else
+    if eqb k SharedPtr then 12 else
+    if eqb k WeakPtr then 13 else
+    if eqb k Ref then 14 else
+    if eqb k Ptr then 15 else
+    if eqb k Str then 16 else
+    if eqb k CxxVector then 17 else
+    if eqb k SliceRef then 18 else
+    if eqb k Fn then 19 else
+    if eqb k Void then 20 else 21

@@ -5,6 +5,14 @@ pub const IDENT: u16 = 0;
 
 pub const RUST_BOX: u16 = 1;
 
+pub const RUST_VEC: u16 = 2;
+
+pub const UNIQUE_PTR: u16 = 3;
+
+pub const SHARED_PTR: u16 = 4;
+
+pub const WEAK_PTR: u16 = 5;
+
 pub const CXX_VECTOR: u16 = 6;
 
 pub const REF: u16 = 7;
