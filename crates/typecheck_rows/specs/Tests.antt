@@ -6,10 +6,13 @@ use mathlib.Core.List.{List}
 use mathlib.Core.Bool.{Bool, not, _&&_, _||_}
 use lib.Dec.{eqb}
 use Rattle.rules.specs.Names.{_∋_, isAtom, nameBool, nameChar, nameCxxString, nameRustString}
+use Rattle.rules.specs.declared.Place.the-variants.{G}
+use Rattle.rules.specs.declared.Diagnostic.{Diagnostic}
 use Rattle.rules.specs.Base.{if_then_else_}
-use Rattle.rules.specs.View.{Ident, RustBox, RustVec, UniquePtr, SharedPtr, WeakPtr, CxxVector, Ref, Ptr, Str, SliceRef, Array, Fn, Void, is, rowName, inner}
+use Rattle.rules.specs.Diagnostics.{say, when}
+use Rattle.rules.specs.View.{Ident, RustBox, RustVec, UniquePtr, SharedPtr, WeakPtr, CxxVector, Ref, Ptr, Str, SliceRef, Array, Fn, Void, flag1, flag2, is, rowName, rowFlags, inner, fnArg}
 use Rattle.rules.specs.Types.{Types}
-use Rattle.rules.specs.Check.{is-unsized-ident}
+use Rattle.rules.specs.Check.{is-unsized-ident, is-unsized}
 use Rattle.names.specs.Table.{wordsAt}
 
 -- ## A name
@@ -17,6 +20,10 @@ use Rattle.names.specs.Table.{wordsAt}
 -- nothing declares it
 abbrev pub unsupported : (sets : List ℕ) (n : ℕ) → Bool
 unsupported w n = not (isAtom n) && not (wordsAt w 0 ∋ n) && not (wordsAt w 1 ∋ n) && not (wordsAt w 2 ∋ n) && not (wordsAt w 3 ∋ n)
+
+-- a C++ type that no struct, enum or alias declares
+abbrev pub opaque : (sets : List ℕ) (n : ℕ) → Bool
+opaque w n = wordsAt w 2 ∋ n && not (wordsAt w 0 ∋ n) && not (wordsAt w 1 ∋ n) && not (wordsAt w 4 ∋ n)
 
 -- a C++ type that is no struct or enum, and no alias that must be trivial
 abbrev pub cxxUnsized : (sets : List ℕ) (n : ℕ) → Bool
@@ -41,6 +48,22 @@ module _ (s : List ℕ) (r : ℕ) where
   -- a plain name, and neither a nor b
   abbrev pub otherTarget : (a b : ℕ) → Bool
   otherTarget a b = plain && not (eqb target a || eqb target b)
+
+  -- a slice of it is supported
+  abbrev pub sliceElement : Types → Bool
+  sliceElement t = not (is-unsized s t (inner s r)) || (plain && (t .rust ∋ target || t .aliases ∋ target))
+
+  abbrev pub opaqueElement : (sets : List ℕ) → Bool
+  opaqueElement w = plain && wordsAt w 2 ∋ target && not (wordsAt w 0 ∋ target) && not (wordsAt w 1 ∋ target)
+
+  -- ## Row r is a reference or a function pointer
+
+  abbrev pub unpinned : Bool
+  unpinned = flag1 (rowFlags s r) && not (flag2 (rowFlags s r))
+
+  -- message 26 at argument j
+  abbrev pub pointerArg : (j : ℕ) → List Diagnostic
+  pointerArg j = when (is s Ptr (fnArg s r j) && not (flag1 (rowFlags s r))) (say 26 (G r j))
 
 -- ## Sizes
 

@@ -4,8 +4,9 @@ ghost use mathlib.Core.List.{List};
 ghost use Prim.Native.Nat.{ℕ, _<_};
 ghost use Rattle.rules.specs.Diagnostics.{bit};
 ghost use Rattle.rules.specs.Format.{Accepted};
+ghost use Rattle.rules.specs.View.{rows};
 ghost use Rattle.rules.specs.Types.{Types};
-ghost use Rattle.rules.specs.Check.{is-unsized-ident, describe-ident, describe};
+ghost use Rattle.rules.specs.Check.{is-unsized-ident, is-unsized, describe-ident, describe};
 ghost use Rattle.typecheck_rows.specs.Tables.{holding, marked, UnsizedRows};
 ghost use Rattle.typecheck_rows.specs.Tests.{cxxUnsized, unsizedLeaf, unsizedRow, describeOther};
 use crate::kinds::ALIASES;
@@ -109,6 +110,13 @@ pub fn unsized_rows(s: &[u8], sets: &[u64; 28]) -> [u8; 1024]
         table[at as usize] = mark(yes);
     }
     table
+}
+
+// Whether row r is unsized, by that table.
+pub fn is_unsized(sizes: &[u8; 1024], r: u16) -> bool
+    ensures { λ x. ⌜ ((s : List ℕ) (t : Types) → UnsizedRows s t (now (sizes .entry)) → r < rows s → x ≡ is-unsized s t r) ⌝ }
+{
+    marked(sizes, r)
 }
 
 fn describe_ident(sets: &[u64; 28], n: u16) -> u16
