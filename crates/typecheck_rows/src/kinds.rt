@@ -29,6 +29,21 @@ pub const FN: u16 = 12;
 
 pub const VOID: u16 = 13;
 
+// Kinds of items.
+pub const RUST_TYPE: u16 = 4;
+
+pub const CXX_FUNCTION: u16 = 5;
+
+pub const RUST_FUNCTION: u16 = 6;
+
+// Derives with a rule.
+pub const DEFAULT: u16 = 3;
+
+pub const EXTERN_TYPE: u16 = 14;
+
+// The lifetime `static`.
+pub const STATIC: u16 = 0;
+
 // Names with a meaning.
 pub const BOOL: u16 = 0;
 
@@ -37,6 +52,8 @@ pub const CHAR: u16 = 1;
 pub const CXX_STRING: u16 = 14;
 
 pub const RUST_STRING: u16 = 15;
+
+pub const SELF: u16 = 23;
 
 // Sets of the table.
 pub const STRUCTS: usize = 0;
@@ -48,5 +65,7 @@ pub const CXX: usize = 2;
 pub const RUST: usize = 3;
 
 pub const ALIASES: usize = 4;
+
+pub const UNTRUSTED: usize = 5;
 
 pub const REQUIRED_TRIVIAL: usize = 6;

@@ -1,0 +1,19 @@
+-- What holds below a limit: entries of a table, rows of a list.
+-- Assumes nothing.
+use Prim.Native.Nat.{ℕ, zero, suc, _<_}
+use mathlib.Core.Path.{_≡_, refl}
+use mathlib.Core.List.{List, [], _∷_}
+use native.Mathlib.Omega.{arith}
+use lib.ListN.{length, getD}
+use Rattle.rules.specs.View.{rows, fieldCount, field}
+use Rattle.typecheck.specs.Tables.{FieldsBelow}
+
+-- an entry of a list does not depend on the value past its end
+pub getD-any : (l : List ℕ) (n a b : ℕ) → n < length l → getD l n a ≡ getD l n b
+getD-any [] n a b h = absurd (omega arith)
+getD-any (x ∷ l) zero a b h = refl
+getD-any (x ∷ l) (suc n) a b h = getD-any l n a b (omega arith)
+
+module _ (s : List ℕ) (i j : ℕ) {r : ℕ} where
+  pub field-below : FieldsBelow s i → r ≡ field s i j → j < fieldCount s i → r < rows s
+  field-below b e l = rw e (b j l)

@@ -1,0 +1,67 @@
+-- What is collected, as it stands in the lent tables over the names; and what is known of the tables over the rows.
+-- Assumes nothing: these are definitions.
+use Prim.Native.Nat.{ℕ, _<_}
+use mathlib.Core.Path.{_≡_}
+use mathlib.Core.List.{List}
+use Rattle.rules.specs.View.{rows, fieldCount, field}
+use Rattle.rules.specs.Types.{Types}
+use Rattle.rules.specs.Check.{find-lifetime-mut}
+use Rattle.typecheck_rows.specs.Tables.{marked}
+
+-- t, with each name's last untrusted CxxType taken from the table
+abbrev pub withUntrusted : (untrusted : List ℕ) → Types → Types
+withUntrusted u t =
+    record {
+      all = t .all;
+      structs = t .structs;
+      enums = t .enums;
+      cxx = t .cxx;
+      rust = t .rust;
+      aliases = t .aliases;
+      untrusted = t .untrusted;
+      reasons = t .reasons;
+      requiredTrivial = t .requiredTrivial;
+      lastStruct = t .lastStruct;
+      lastUntrusted = u;
+      lastType = t .lastType;
+    }
+
+-- each name's last item that is a type
+abbrev pub withLastType : (lastType : List ℕ) → Types → Types
+withLastType l t =
+    record {
+      all = t .all;
+      structs = t .structs;
+      enums = t .enums;
+      cxx = t .cxx;
+      rust = t .rust;
+      aliases = t .aliases;
+      untrusted = t .untrusted;
+      reasons = t .reasons;
+      requiredTrivial = t .requiredTrivial;
+      lastStruct = t .lastStruct;
+      lastUntrusted = t .lastUntrusted;
+      lastType = l;
+    }
+
+-- each name's count of reasons
+abbrev pub withReasons : (reasons : List ℕ) → Types → Types
+withReasons n t =
+    record {
+      all = t .all;
+      structs = t .structs;
+      enums = t .enums;
+      cxx = t .cxx;
+      rust = t .rust;
+      aliases = t .aliases;
+      untrusted = t .untrusted;
+      reasons = n;
+      requiredTrivial = t .requiredTrivial;
+      lastStruct = t .lastStruct;
+      lastUntrusted = t .lastUntrusted;
+      lastType = t .lastType;
+    }
+
+-- the field rows of struct i are rows
+abbrev pub FieldsBelow : (s : List ℕ) (i : ℕ) → Type 0
+FieldsBelow s i = (j : ℕ) → j < fieldCount s i → field s i j < rows s

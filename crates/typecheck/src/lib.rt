@@ -1,0 +1,3 @@
+// Messages 3 to 58 of a sheet: check.rs, a function for each of its functions, under its name.
+pub mod items; // structs, enums, extern types, aliases and impls
+mod tables; // tables over the names
