@@ -5,8 +5,8 @@ use mathlib.Core.Path.{_≡_, refl}
 use mathlib.Core.List.{List, [], _∷_}
 use native.Mathlib.Omega.{arith}
 use lib.ListN.{length, getD}
-use Rattle.rules.specs.View.{rows, fieldCount, field}
-use Rattle.typecheck.specs.Tables.{FieldsBelow}
+use Rattle.rules.specs.View.{rows, fieldCount, field, argCount, arg}
+use Rattle.typecheck.specs.Tables.{FieldsBelow, ArgsBelow}
 
 -- an entry of a list does not depend on the value past its end
 pub getD-any : (l : List ℕ) (n a b : ℕ) → n < length l → getD l n a ≡ getD l n b
@@ -17,3 +17,6 @@ getD-any (x ∷ l) (suc n) a b h = getD-any l n a b (omega arith)
 module _ (s : List ℕ) (i j : ℕ) {r : ℕ} where
   pub field-below : FieldsBelow s i → r ≡ field s i j → j < fieldCount s i → r < rows s
   field-below b e l = rw e (b j l)
+
+  pub arg-below : ArgsBelow s i → r ≡ arg s i j → j < argCount s i → r < rows s
+  arg-below b e l = rw e (b j l)

@@ -3,7 +3,8 @@
 use Prim.Native.Nat.{ℕ, _<_}
 use mathlib.Core.Path.{_≡_}
 use mathlib.Core.List.{List}
-use Rattle.rules.specs.View.{rows, fieldCount, field}
+use mathlib.Core.Bool.{true}
+use Rattle.rules.specs.View.{rows, fieldCount, field, argCount, arg, hasReturn, return}
 use Rattle.rules.specs.Types.{Types}
 use Rattle.rules.specs.Check.{find-lifetime-mut}
 use Rattle.typecheck_rows.specs.Tables.{marked}
@@ -65,3 +66,10 @@ withReasons n t =
 -- the field rows of struct i are rows
 abbrev pub FieldsBelow : (s : List ℕ) (i : ℕ) → Type 0
 FieldsBelow s i = (j : ℕ) → j < fieldCount s i → field s i j < rows s
+
+-- and so are the argument rows of function i, and its return row where it has one
+abbrev pub ArgsBelow : (s : List ℕ) (i : ℕ) → Type 0
+ArgsBelow s i = (j : ℕ) → j < argCount s i → arg s i j < rows s
+
+abbrev pub ReturnBelow : (s : List ℕ) (i : ℕ) → Type 0
+ReturnBelow s i = hasReturn s i ≡ true → return s i < rows s

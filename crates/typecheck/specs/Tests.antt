@@ -1,0 +1,24 @@
+-- The tests of check.rs on functions that are functions of their own in the code, over the table of seven sets.
+-- Assumes nothing: these are definitions.
+use Prim.Native.Nat.{ℕ}
+use mathlib.Core.List.{List, []}
+use mathlib.Core.Bool.{Bool, not, _&&_}
+use Rattle.rules.specs.declared.Diagnostic.{Diagnostic}
+use Rattle.rules.specs.Base.{if_then_else_}
+use Rattle.rules.specs.Names.{_∋_}
+use Rattle.rules.specs.View.{isMethod, isFree}
+use Rattle.rules.specs.Types.{Types}
+use Rattle.rules.specs.Check.{check-fn-receiver, check-fn-self-type}
+use Rattle.names.specs.Table.{wordsAt}
+
+-- no struct, CxxType, RustType or alias has the name
+abbrev pub undeclared : (sets : List ℕ) (n : ℕ) → Bool
+undeclared w n = not (wordsAt w 0 ∋ n) && not (wordsAt w 2 ∋ n) && not (wordsAt w 3 ∋ n)
+
+-- an unpinned receiver of a C++ type that is neither a struct nor an alias
+abbrev pub opaqueSelf : (sets : List ℕ) (unpinned : Bool) (n : ℕ) → Bool
+opaqueSelf w unpinned n = unpinned && wordsAt w 2 ∋ n && not (wordsAt w 0 ∋ n) && not (wordsAt w 4 ∋ n)
+
+-- the `match` over a function's kind: method, free or associated
+abbrev pub fnKind : List ℕ → Types → (i : ℕ) → List Diagnostic
+fnKind s t i = if isMethod s i then check-fn-receiver s t i else if isFree s i then [] else check-fn-self-type s t i
