@@ -20,10 +20,7 @@ use Steps.{after-is}
 use Sheet.{sheet-of}
 use Rows.{row-of}
 use Items.{item-of}
-
-T-true : (b : Bool) → T b → b ≡ true
-T-true true t = refl
-T-true false t = absurd t
+use Rattle.laws.proofs.Tests.{is-true}
 
 module _ (s : List ℕ) (acc : Accepted s) where
   through-falls : (r : ℕ) → r < rows s → (kind s r ≡ Ref) ⊎ ((kind s r ≡ Ptr) ⊎ (kind s r ≡ Array)) → inner s r < r
@@ -35,7 +32,7 @@ module _ (s : List ℕ) (acc : Accepted s) where
   fits =
       record {
         few = sheet-of s acc .few-items;
-        named = λ i l t. item-of s acc i l .as-type (T-true (isType s i) t) .named;
+        named = λ i l t. item-of s acc i l .as-type (is-true (isType s i) t) .named;
         rows-fall = through-falls;
         fields-below = λ i j h l. item-of s acc i (h .below) .as-struct (h .is-struct) .field-below j l;
       }

@@ -8,6 +8,7 @@ use lib.Dec.{T, eqb}
 use Rattle.laws.proofs.Counts.{Eq?, same, other, eq?, eqb-same, free, free-one, free-le}
 use Rattle.rules.specs.Improper.{Look, fine, bad, to, Looks}
 use Rattle.rules.specs.Improper as I
+use Rattle.laws.proofs.Tests.{or-cases, or-left, or-right}
 
 -- a chain of fields, the first of the name's last struct, that ends in an improper one
 pub data Improper (g : Looks) : ℕ → Type 0 where
@@ -36,18 +37,6 @@ module _ (S : Type 0) (has : S → ℕ → Bool) (add : S → ℕ → S) (g : Lo
   module _ (ok : S → Type 0) (ok-add : (s : S) (i : ℕ) → ok s → i < n → ok (add s i)) (has-add : (s : S) (i x : ℕ) → ok s → i < n → has (add s i) x ≡ (eqb x i || has s x)) where
     pub Sound : S → Type 0
     Sound s = (x : ℕ) → T (has s x) → Improper g x
-
-    or-cases : (a b : Bool) → T (a || b) → T a ⊎ T b
-    or-cases true b t = inl tt
-    or-cases false b t = inr t
-
-    or-left : (a b : Bool) → T a → T (a || b)
-    or-left true b t = tt
-    or-left false b t = absurd t
-
-    or-right : (a b : Bool) → T b → T (a || b)
-    or-right true b t = tt
-    or-right false b t = t
 
     found-at : (s : S) (i k : ℕ) → T (found s i k) → (x : ℕ) × (x < k) × T (hits s (g .look i x))
     unfolding I.found

@@ -19,6 +19,7 @@ use Rattle.laws.proofs.Chains.{Good, Edge}
 use Rattle.rules.specs.Order.{leadsTo, graphOf}
 use Rattle.rules.specs.Rule3.{IsStruct, LastStruct, Holds}
 use Rattle.laws.proofs.Counts.{Eq?, same, other, eq?, eqb-true}
+use Rattle.laws.proofs.Tests.{and-left, and-right, and-both}
 
 -- what rule 3 needs of an accepted sheet
 pub record Fits (s : List ℕ) : Type 0 where
@@ -79,18 +80,6 @@ module _ (s : List ℕ) (p : ℕ → Bool) where
 
 -- ## Struct items
 
-and-left : (a b : Bool) → T (a && b) → T a
-and-left true b t = tt
-and-left false b t = t
-
-and-right : (a b : Bool) → T (a && b) → T b
-and-right true b t = t
-and-right false b t = absurd t
-
-and-both : (a b : Bool) → T a → T b → T (a && b)
-and-both true b t u = u
-and-both false b t u = t
-
 module _ (s : List ℕ) where
   kind-true : (i : ℕ) → itemKind s i ≡ Struct → T (itemIs s Struct i)
   unfolding itemIs
@@ -126,9 +115,9 @@ module _ (s : List ℕ) where
   unfolding entersStructs
   enters i t = true-kind i t
 
-  entered : (i : ℕ) → itemKind s i ≡ Struct → T (entersStructs s i)
+  pub enters-struct : (i : ℕ) → itemKind s i ≡ Struct → T (entersStructs s i)
   unfolding entersStructs
-  entered i e = kind-true i e
+  enters-struct i e = kind-true i e
 
   pub of-last : (n i : ℕ) → structOf (typesOf s) n ≡ i → i ≢ 255 → LastStruct s n i
   of-last n i e ne = go (structOf (typesOf s) n) e (struct-of n (named-small n (λ q. ne (sym e ∙ q))))
@@ -136,15 +125,15 @@ module _ (s : List ℕ) where
       go : (r : ℕ) → r ≡ i → Last s (entersStructs s) (items s) n r → LastStruct s n i
       go r q (no-one f) = absurd (ne (sym q))
       go r q (last l t b f) =
-          subst (λ (x : ℕ). LastStruct s n x) q (record { struct = record { below = l; is-struct = enters r t }; bears = b; last = λ j h d. f j (h .below) (entered j (h .is-struct)) d })
+          subst (λ (x : ℕ). LastStruct s n x) q (record { struct = record { below = l; is-struct = enters r t }; bears = b; last = λ j h d. f j (h .below) (enters-struct j (h .is-struct)) d })
 
   pub last-of : Fits s → (n i : ℕ) → LastStruct s n i → structOf (typesOf s) n ≡ i
   last-of fits n i h = go (structOf (typesOf s) n) refl (struct-of n (subst (λ (x : ℕ). x < 256) (h .bears) (struct-named s fits i (h .struct))))
     where
       go : (r : ℕ) → structOf (typesOf s) n ≡ r → Last s (entersStructs s) (items s) n r → structOf (typesOf s) n ≡ i
-      go r e (no-one f) = absurd (f i (h .struct .below) (entered i (h .struct .is-struct)) (h .bears))
+      go r e (no-one f) = absurd (f i (h .struct .below) (enters-struct i (h .struct .is-struct)) (h .bears))
       go r e (last l t b f) =
-          let a : i ≤ r = f i (h .struct .below) (entered i (h .struct .is-struct)) (h .bears) in
+          let a : i ≤ r = f i (h .struct .below) (enters-struct i (h .struct .is-struct)) (h .bears) in
           let c : r ≤ i = h .last r (record { below = l; is-struct = enters r t }) b in
           e ∙ omega arith
 

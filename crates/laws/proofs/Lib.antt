@@ -1,5 +1,8 @@
 pub mod Chains
 pub mod Counts
+pub mod Tests
+pub mod Sums
+pub mod Members
 pub mod ChainLaws
 pub mod WalkInvariant
 pub mod WalkOrder
@@ -12,10 +15,14 @@ pub mod TierPass
 pub mod TierRule
 pub mod ImproperSearch
 pub mod NameSets
+pub mod Sets
 pub mod LastItems
 pub mod Rule3Order
 pub mod Rule3Cyclic
 pub mod SetMembers
 pub mod Rule3Improper
 pub mod Accepted
+pub mod Collect
+pub mod Bounds
+pub mod Fuel
 pub mod Due

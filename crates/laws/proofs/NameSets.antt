@@ -99,7 +99,7 @@ pub length-add : (s : List ℕ) (i : ℕ) → length (add s i) ≡ length s
 unfolding add
 length-add s i = length-set s (i / 64) (bitOr (getD s (i / 64) 0) (2 ^ (i % 64)))
 
-empty-get : (q : ℕ) → getD empty q 0 ≡ length {A = ℕ} []
+pub empty-get : (q : ℕ) → getD empty q 0 ≡ length {A = ℕ} []
 empty-get zero = refl
 empty-get (suc zero) = refl
 empty-get (suc (suc zero)) = refl

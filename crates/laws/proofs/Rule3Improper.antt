@@ -22,25 +22,7 @@ use Rattle.laws.proofs.Counts.{Eq?, same, other, eq?}
 use Rattle.laws.proofs.NameSets.{improper-names}
 use Rattle.laws.proofs.LastItems.{Fits, of-last, last-of, struct-named}
 use Rattle.laws.proofs.SetMembers.{structs-are, rust-are, aliases-are, borne-small}
-
-or-cases : (a b : Bool) → T (a || b) → T a ⊎ T b
-or-cases true b t = inl tt
-or-cases false b t = inr t
-
-no-eq : (a b : ℕ) → a ≢ b → eqb a b ≡ false
-no-eq a b ne = go (eq? a b)
-  where
-    go : Eq? a b → eqb a b ≡ false
-    go (same _ e) = absurd (ne e)
-    go (other e _) = e
-
-truth : (b : Bool) → T b → b ≡ true
-truth true t = refl
-truth false t = absurd t
-
-falsity : (b : Bool) → (T b → ⊥) → b ≡ false
-falsity true f = absurd (f tt)
-falsity false f = refl
+use Rattle.laws.proofs.Tests.{never, is-true, is-false, or-cases, or-left, or-right, no-eq}
 
 not-bad : fine ≡ bad → ⊥
 not-bad e = let z : _≡_ {A = ℕ} 0 1 = cc in omega arith
@@ -84,13 +66,13 @@ module _ (s : List ℕ) (fits : Fits s) where
 
   skip : (a b : Bool) (x y z : Look) → b ≡ false → _≡_ {A = Look} (elim a as (λ _. Look) [ true ↦ x | false ↦ elim b as (λ _. Look) [ true ↦ y | false ↦ z ] ]) (elim a as (λ _. Look) [ true ↦ x | false ↦ z ])
   skip true b x y z e = refl
-  skip false true x y z e = let w : _≡_ {A = ℕ} 0 1 = cc in absurd (omega arith)
+  skip false true x y z e = never (sym e)
   skip false false x y z e = refl
 
   step : (a b : Bool) (x y z : Look) → a ≡ false → b ≡ true → elim a as (λ _. Look) [ true ↦ x | false ↦ elim b as (λ _. Look) [ true ↦ y | false ↦ z ] ] ≡ y
-  step true b x y z e d = let w : _≡_ {A = ℕ} 0 1 = cc in absurd (omega arith)
+  step true b x y z e d = never (sym e)
   step false true x y z e d = refl
-  step false false x y z e d = let w : _≡_ {A = ℕ} 0 1 = cc in absurd (omega arith)
+  step false false x y z e d = never d
 
   is-through : (r : ℕ) → (kind s r ≡ Ref) ⊎ ((kind s r ≡ Ptr) ⊎ (kind s r ≡ Array)) → (eqb (kind s r) Ident ≡ false) × (seen-through (kind s r) ≡ true)
   is-through r (inl e) = (ap (λ k. eqb k 0) e, ap seen-through e)
@@ -126,7 +108,7 @@ module _ (s : List ℕ) (fits : Fits s) where
 
   atom-no : (n : ℕ) → 16 ≤ n → isAtom n ≡ false
   unfolding isAtom
-  atom-no n l = falsity (ltb n 16) (λ u. let w = ltb→lt n 16 u in omega arith)
+  atom-no n l = is-false (ltb n 16) (λ u. let w = ltb→lt n 16 u in omega arith)
 
   no-atom : (n : ℕ) → isAtom n ≡ false → 16 ≤ n
   unfolding isAtom
@@ -202,15 +184,7 @@ module _ (s : List ℕ) (fits : Fits s) where
 
   struct-here : (q : ℕ) → kind s q ≡ Ident → 16 ≤ rowName s q → T (t .structs ∋ rowName s q) → lookHere q ≡ to (rowName s q)
   unfolding lookName if_then_else_
-  struct-here q k l u = ap (λ x. looked x (rowName s q)) k ∙ rw (atom-no (rowName s q) l, truth (t .structs ∋ rowName s q) u)
-
-  or-left : (a b : Bool) → T a → T (a || b)
-  or-left true b t = tt
-  or-left false b t = absurd t
-
-  or-right : (a b : Bool) → T b → T (a || b)
-  or-right true b t = tt
-  or-right false b t = t
+  struct-here q k l u = ap (λ x. looked x (rowName s q)) k ∙ rw (atom-no (rowName s q) l, is-true (t .structs ∋ rowName s q) u)
 
   bad-here : (q : ℕ) → Bad s q → lookHere q ≡ bad
   unfolding lookName if_then_else_ isAtom
@@ -223,7 +197,7 @@ module _ (s : List ℕ) (fits : Fits s) where
   bad-here q (slice k) = ap (λ x. looked x (rowName s q)) k
   bad-here q (name k l no-struct by) =
       ap (λ x. looked x (rowName s q)) k
-      ∙ rw (atom-no (rowName s q) l, falsity (t .structs ∋ rowName s q) (λ u. no-struct (structs-are s fits (rowName s q) .0 u)), truth (t .rust ∋ rowName s q || t .aliases ∋ rowName s q) (of by))
+      ∙ rw (atom-no (rowName s q) l, is-false (t .structs ∋ rowName s q) (λ u. no-struct (structs-are s fits (rowName s q) .0 u)), is-true (t .rust ∋ rowName s q || t .aliases ∋ rowName s q) (of by))
     where
       of : Borne s RustType (rowName s q) ⊎ Borne s TypeAlias (rowName s q) → T (t .rust ∋ rowName s q || t .aliases ∋ rowName s q)
       of (inl b) = or-left (t .rust ∋ rowName s q) (t .aliases ∋ rowName s q) (rust-are s fits (rowName s q) .1 b)

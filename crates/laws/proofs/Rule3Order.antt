@@ -24,18 +24,12 @@ use Rattle.rules.specs.Rule3.{IsStruct, Holds, Tiers3, structsTo, one, more}
 use Rattle.rules.specs.Rule3 as R
 use Rattle.laws.proofs.Counts.{Eq?, same, other, eq?}
 use Rattle.laws.proofs.WalkOrder.{InOrder, in-order, each-once, chain-end}
-use Rattle.laws.proofs.WalkCalls.{sumTo, order-length, order-few}
+use Rattle.laws.proofs.WalkCalls.{order-length, order-few}
+use Rattle.laws.proofs.Sums.{sumTo}
+use Rattle.laws.proofs.Tests.{is-true, is-false}
 use Rattle.laws.proofs.TierTable.{table-all, table-none}
 use Rattle.laws.proofs.TierRule.{tier-rule}
 use Rattle.laws.proofs.LastItems.{good-items, Fits, struct-is, edge-holds, holds-edge, good}
-
-is-true : (b : Bool) → T b → b ≡ true
-is-true true t = refl
-is-true false t = absurd t
-
-is-false : (b : Bool) → (T b → ⊥) → b ≡ false
-is-false true f = absurd (f tt)
-is-false false f = refl
 
 module _ (s : List ℕ) (fits : Fits s) where
   abbrev G : Graph

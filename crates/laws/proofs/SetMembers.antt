@@ -3,19 +3,20 @@
 use Prim.Native.Nat.{ℕ, zero, suc, _≤_, _<_}
 use mathlib.Core.Path.{_≡_, refl, sym, ap, _∙_, subst}
 use mathlib.Core.Logic.{_↔_, _⊎_, inl, inr}
-use mathlib.Core.Bool.{Bool, true, false, _&&_, _||_}
+use mathlib.Core.Bool.{Bool, true, false, not, _&&_, _||_}
 use mathlib.Core.List.{List}
 use native.Mathlib.Omega.{arith}
 use lib.Dec.{T, eqb, leb, eqb→eq, eqb-refl}
 use lib.ListN.{length}
 use Rattle.rules.specs.Names.{Words, empty, add, _∋_}
-use Rattle.rules.specs.View.{Struct, RustType, TypeAlias, items, itemKind, itemIs, itemName, isType}
-use Rattle.rules.specs.Collect.{namesTo, entersStructs, entersRust, entersAliases}
+use Rattle.rules.specs.View.{Struct, Enum, CxxType, RustType, TypeAlias, items, itemKind, itemIs, itemName, typeTrusted}
+use Rattle.rules.specs.Collect.{namesTo, entersStructs, entersEnums, entersCxx, entersRust, entersAliases, entersUntrusted}
 use Rattle.rules.specs.Types.{Types, typesOf}
 use Rattle.rules.specs.Rule3.{Borne}
 use Rattle.laws.proofs.Counts.{Eq?, same, other, eq?}
 use Rattle.laws.proofs.NameSets.{has-add, length-add, has-empty}
 use Rattle.laws.proofs.LastItems.{Fits, kind-type}
+use Rattle.laws.proofs.Tests.{or-cases, or-left, or-right, and-left}
 
 -- one of the first k items that pass bears the name n
 pub record Member (s : List ℕ) (p : ℕ → Bool) (k n : ℕ) : Type 0 where
@@ -23,18 +24,6 @@ pub record Member (s : List ℕ) (p : ℕ → Bool) (k n : ℕ) : Type 0 where
   pub below : item < k
   pub passes : T (p item)
   pub bears : itemName s item ≡ n
-
-or-cases : (a b : Bool) → T (a || b) → T a ⊎ T b
-or-cases true b t = inl tt
-or-cases false b t = inr t
-
-or-left : (a b : Bool) → T a → T (a || b)
-or-left true b t = tt
-or-left false b t = absurd t
-
-or-right : (a b : Bool) → T b → T (a || b)
-or-right true b t = tt
-or-right false b t = t
 
 module _ (s : List ℕ) (p : ℕ → Bool) where
   pub length-names : (k : ℕ) → length (namesTo s p k) ≡ 4
@@ -88,7 +77,7 @@ module _ (s : List ℕ) (p : ℕ → Bool) where
               by (same _ d) = or-left (eqb n (itemName s k)) (w ∋ n) (subst (λ (x : ℕ). T (eqb x (itemName s k))) (ap (itemName s) (sym d) ∙ m .bears) (eqb-refl (itemName s k)))
               by (other _ d) = let l : m .item < suc k = m .below in or-right (eqb n (itemName s k)) (w ∋ n) (ih .1 (record { item = m .item; below = omega arith; passes = m .passes; bears = m .bears }))
 
--- ## The sets of rule 3
+-- ## The sets of a sheet
 
 module _ (s : List ℕ) (fits : Fits s) where
   -- of a test that asks for one kind
@@ -114,6 +103,46 @@ module _ (s : List ℕ) (fits : Fits s) where
   pub aliases-are : (n : ℕ) → T (typesOf s .aliases ∋ n) ↔ Borne s TypeAlias n
   unfolding typesOf entersAliases
   aliases-are n = of-kind TypeAlias tt (entersAliases s) (λ i. kind-is TypeAlias i) n
+
+  pub enums-are : (n : ℕ) → T (typesOf s .enums ∋ n) ↔ Borne s Enum n
+  unfolding typesOf entersEnums
+  enums-are n = of-kind Enum tt (entersEnums s) (λ i. kind-is Enum i) n
+
+  -- an alias enters cxx too
+  pub cxx-are : (n : ℕ) → T (typesOf s .cxx ∋ n) ↔ (Borne s CxxType n ⊎ Borne s TypeAlias n)
+  unfolding typesOf entersCxx
+  cxx-are n = (λ t. to (r .0 t), λ b. r .1 (from b))
+    where
+      cases : (i : ℕ) → T (itemIs s CxxType i || itemIs s TypeAlias i) → (itemKind s i ≡ CxxType) ⊎ (itemKind s i ≡ TypeAlias)
+      cases i t = by (or-cases (itemIs s CxxType i) (itemIs s TypeAlias i) t)
+        where
+          by : T (itemIs s CxxType i) ⊎ T (itemIs s TypeAlias i) → (itemKind s i ≡ CxxType) ⊎ (itemKind s i ≡ TypeAlias)
+          by (inl u) = inl (kind-is CxxType i .0 u)
+          by (inr u) = inr (kind-is TypeAlias i .0 u)
+
+      small : (i : ℕ) → i < items s → (itemKind s i ≡ CxxType) ⊎ (itemKind s i ≡ TypeAlias) → itemName s i < 256
+      small i l (inl e) = fits .named i l (kind-type s CxxType tt i e)
+      small i l (inr e) = fits .named i l (kind-type s TypeAlias tt i e)
+
+      r : T (namesTo s (entersCxx s) (items s) ∋ n) ↔ Member s (entersCxx s) (items s) n
+      r = member-is s (entersCxx s) (items s) (λ i l t. small i l (cases i t)) n
+
+      to : Member s (entersCxx s) (items s) n → Borne s CxxType n ⊎ Borne s TypeAlias n
+      to m = by (cases (m .item) (m .passes))
+        where
+          by : (itemKind s (m .item) ≡ CxxType) ⊎ (itemKind s (m .item) ≡ TypeAlias) → Borne s CxxType n ⊎ Borne s TypeAlias n
+          by (inl e) = inl (record { item = m .item; below = m .below; is-kind = e; bears = m .bears })
+          by (inr e) = inr (record { item = m .item; below = m .below; is-kind = e; bears = m .bears })
+
+      from : Borne s CxxType n ⊎ Borne s TypeAlias n → Member s (entersCxx s) (items s) n
+      from (inl b) = record { item = b .item; below = b .below; passes = or-left (itemIs s CxxType (b .item)) (itemIs s TypeAlias (b .item)) (kind-is CxxType (b .item) .1 (b .is-kind)); bears = b .bears }
+      from (inr b) = record { item = b .item; below = b .below; passes = or-right (itemIs s CxxType (b .item)) (itemIs s TypeAlias (b .item)) (kind-is TypeAlias (b .item) .1 (b .is-kind)); bears = b .bears }
+
+  pub untrusted-are : (n : ℕ) → T (typesOf s .untrusted ∋ n) ↔ Member s (entersUntrusted s) (items s) n
+  unfolding typesOf entersUntrusted
+  untrusted-are n =
+      member-is s (entersUntrusted s) (items s)
+      (λ i l t. fits .named i l (kind-type s CxxType tt i (kind-is CxxType i .0 (and-left (itemIs s CxxType i) (not (typeTrusted s i)) t)))) n
 
   pub borne-small : (k : ℕ) → T ((leb 1 k && leb k 4) || eqb k 7) → (n : ℕ) → Borne s k n → n < 256
   borne-small k tk n b = subst (λ (x : ℕ). x < 256) (b .bears) (fits .named (b .item) (b .below) (kind-type s k tk (b .item) (b .is-kind)))

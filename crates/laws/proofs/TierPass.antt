@@ -22,6 +22,7 @@ use Rattle.rules.specs.Tiers.{tops, tiersOf}
 use Rattle.rules.specs.Answer.{places}
 use Rattle.laws.proofs.TierTable.{table-all, table-none}
 use Rattle.laws.proofs.Lists.{zeros-get, places-length}
+use Rattle.laws.proofs.Tests.{bit-le}
 
 -- the tier of item i, from the tiers so far
 abbrev pub tierFrom : Graph → List ℕ → ℕ → ℕ
@@ -101,10 +102,6 @@ module _ (G : Graph) (n : ℕ) (good : Good G n) where
         go : (b : Bool) → G .struct x ≡ b → T b
         go true e = tt
         go false e = let z : count x o ≡ bit false = rw e at (once x) in absurd (omega arith)
-
-    bit-le : (b : Bool) → bit b ≤ 1
-    bit-le true = omega arith
-    bit-le false = omega arith
 
     next : (p : ℕ) → p < length o → (t : List ℕ) → Begun o p t → Begun o (suc p) (set t (getD o p 0) (tierFrom G t (getD o p 0)))
     next p l t h = record { size = length-set t i (tierFrom G t i) ∙ h .size; given = λ x. at-given x (eq? x i); waits = λ x. at-waits x (eq? x i) }

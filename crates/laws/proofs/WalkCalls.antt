@@ -15,10 +15,7 @@ use Rattle.laws.proofs.Chains.{Good}
 use Rattle.rules.specs.Walk.{Out, still, join, flagged, seen, finished, fieldOut, fieldsOut, visitOut, itemOut, itemsOut, sortOut}
 use Rattle.laws.proofs.WalkFuel.{Shrinks, Down, fields-shrinks, field-shrinks, visit-shrinks}
 use Rattle.laws.proofs.WalkOrder.{each-once}
-
-unfoldable pub sumTo : ℕ → (ℕ → ℕ) → ℕ
-sumTo zero h = 0
-sumTo (suc k) h = sumTo k h + h k
+use Rattle.laws.proofs.Sums.{sumTo, sum-same, sum-add, sum-bits, weight, weight-append, weight-sum, weight-one}
 
 -- how many of the first k fields of item i lead to an item
 abbrev pub leading : Graph → ℕ → ℕ → ℕ
@@ -26,60 +23,6 @@ leading G i k = sumTo k (λ x. bit (not (eqb (G .to i x) 255)))
 
 unfoldable pub work : Graph → ℕ → ℕ
 work G n = sumTo n (λ x. bit (G .struct x) * suc (leading G x (G .fields x)))
-
-sum-same : (k : ℕ) (a b : ℕ → ℕ) → ((x : ℕ) → x < k → a x ≡ b x) → sumTo k a ≡ sumTo k b
-unfolding sumTo
-sum-same zero a b h = refl
-sum-same (suc k) a b h = rw (h k (omega arith), sum-same k a b (λ x l. h x (omega arith)))
-
-pub sum-bits : (k : ℕ) (p : ℕ → Bool) → sumTo k (λ x. bit (p x)) ≤ k
-unfolding sumTo
-sum-bits zero p = omega arith
-sum-bits (suc k) p = omega (arith, sum-bits k p, bit-le (p k))
-  where
-    bit-le : (b : Bool) → bit b ≤ 1
-    bit-le true = omega arith
-    bit-le false = omega arith
-
-sum-add : (k : ℕ) (a b : ℕ → ℕ) → sumTo k (λ x. a x + b x) ≡ sumTo k a + sumTo k b
-unfolding sumTo
-sum-add zero a b = refl
-sum-add (suc k) a b = omega (arith, sum-add k a b)
-
-sum-none : (k : ℕ) (a : ℕ → ℕ) → ((x : ℕ) → x < k → a x ≡ 0) → sumTo k a ≡ 0
-unfolding sumTo
-sum-none zero a h = refl
-sum-none (suc k) a h = omega (arith, h k (omega arith), sum-none k a (λ x l. h x (omega arith)))
-
-sum-one : (k y : ℕ) (a : ℕ → ℕ) → y < k → sumTo k (λ x. bit (eqb x y) * a x) ≡ a y
-unfolding sumTo
-sum-one zero y a l = absurd (omega arith)
-sum-one (suc k) y a l = go (eq? k y) (sum-one k y a)
-  where
-    miss : (x : ℕ) → x ≢ y → Eq? x y → bit (eqb x y) * a x ≡ 0
-    miss x ne (same _ p) = absurd (ne p)
-    miss x ne (other e _) = rw e (omega arith)
-
-    go : Eq? k y → (y < k → sumTo k (λ x. bit (eqb x y) * a x) ≡ a y) → sumTo k (λ x. bit (eqb x y) * a x) + bit (eqb k y) * a k ≡ a y
-    go (same e p) ih = let q : a k ≡ a y = ap a p in rw e (omega (arith, sum-none k (λ x. bit (eqb x y) * a x) (λ x m. miss x (omega arith) (eq? x y))))
-    go (other e p) ih = rw e (omega (arith, ih (omega arith)))
-
-weight : (ℕ → ℕ) → List ℕ → ℕ
-weight h [] = 0
-weight h (x ∷ l) = h x + weight h l
-
-weight-append : (h : ℕ → ℕ) (l t : List ℕ) → weight h (l ++ t) ≡ weight h l + weight h t
-unfolding weight
-weight-append h [] t = omega arith
-weight-append h (x ∷ l) t = omega (arith, weight-append h l t)
-
-weight-sum : (n : ℕ) (h : ℕ → ℕ) (l : List ℕ) → ((x : ℕ) → 0 < count x l → x < n) → weight h l ≡ sumTo n (λ x. count x l * h x)
-unfolding weight
-weight-sum n h [] b = sym (sum-none n (λ x. 0 * h x) (λ x _. omega arith))
-weight-sum n h (y ∷ l) b =
-    let e₁ : weight h l ≡ sumTo n (λ x. count x l * h x) = weight-sum n h l (λ x m. b x (omega arith)) in
-    let e₂ : sumTo n (λ x. (bit (eqb x y) + count x l) * h x) ≡ sumTo n (λ x. bit (eqb x y) * h x + count x l * h x) = sum-same n (λ x. (bit (eqb x y) + count x l) * h x) (λ x. bit (eqb x y) * h x + count x l * h x) (λ x _. omega arith) in
-    omega (arith, e₁, e₂, sum-add n (λ x. bit (eqb x y) * h x) (λ x. count x l * h x), sum-one n y h (b y (let z : 0 < bit true + count y l = omega arith in rw (eqb-same y) z)))
 
 module _ (G : Graph) (n : ℕ) (good : Good G n) where
   all : ℕ → ℕ
@@ -176,14 +119,9 @@ module _ (G : Graph) (n : ℕ) (good : Good G n) where
 
   -- the order has as many places as there are struct items
   pub order-length : length (sortOut G n .sorted) ≡ sumTo n (λ x. bit (G .struct x))
-  unfolding weight
   order-length =
       let o = sortOut G n .sorted in
       weight-one o ∙ weight-sum n (λ _. 1) o (λ x m. good .below x (is-struct x m)) ∙ sum-same n (λ x. count x o * 1) (λ x. bit (G .struct x)) (λ x _. omega (arith, each-once G n good x))
-    where
-      weight-one : (l : List ℕ) → length l ≡ weight (λ _. 1) l
-      weight-one [] = refl
-      weight-one (x ∷ l) = omega (arith, weight-one l)
 
   pub order-few : length (sortOut G n .sorted) ≤ n
   order-few = omega (arith, order-length, sum-bits n (G .struct))

@@ -13,8 +13,9 @@ use Rattle.rules.specs.declared.Step.the-variants.{Next}
 use Rattle.rules.specs.Base.{if_then_else_}
 use Rattle.rules.specs.Format.{after, pairAt, offset, limited, function, itemKinds, itemOf, item, Accepted}
 use Rattle.rules.specs.View.{Ident, rows, kind, Struct, Enum, CxxType, RustType, CxxFunction, RustFunction, TypeAlias, Impl, items, itemPlace, itemKind, itemIs, isType, isFunction, itemName, past, entry, lifetimesPlace, lifetimeCount, lifetime, derivesPlace, deriveCount, derive, rest, fieldCount, field, enumRepr, enumVariants, enumDefaults, receiverPlace, form, selfType, returnPlace, return, argCount, arg, implRow}
-use Rattle.laws.proofs.Accepted.Steps.{no, or-is, after-is, Reads, _then_, RowOrNone, ListAt, HeadAt, ReceiverAt, limited-reads, orNone-reads, list-reads, head-reads, repr-reads, variants-reads, receiver-reads}
+use Rattle.laws.proofs.Accepted.Steps.{after-is, Reads, _then_, nothing-read, RowOrNone, ListAt, HeadAt, ReceiverAt, limited-reads, orNone-reads, list-reads, head-reads, repr-reads, variants-reads, receiver-reads}
 use Rattle.laws.proofs.Accepted.Sheet.{Bodies, bodies-of}
+use Rattle.laws.proofs.Tests.{never, or-is}
 
 module _ (s : List ℕ) (i : ℕ) where
   pub record LifetimesOf : Type 0 where
@@ -58,6 +59,16 @@ module _ (s : List ℕ) (i : ℕ) where
     pub as-enum : itemKind s i ≡ Enum → EnumOf
     pub as-function : isFunction s i ≡ true → FunctionOf
     pub as-impl : itemKind s i ≡ Impl → ImplOf
+
+  -- in bytes: `next` is the place behind the item
+  pub record Sizes (next : ℕ) : Type 0 where
+    pub struct : itemKind s i ≡ Struct → next ≡ itemPlace s i + 10 + 2 * lifetimeCount s i + 2 * deriveCount s i + 2 * fieldCount s i
+    pub enum : itemKind s i ≡ Enum → next ≡ itemPlace s i + 16 + 2 * lifetimeCount s i + 2 * deriveCount s i
+    pub opaque : (itemKind s i ≡ CxxType) ⊎ (itemKind s i ≡ RustType) → next ≡ itemPlace s i + 10 + 2 * lifetimeCount s i + 2 * deriveCount s i
+    pub function : (itemKind s i ≡ CxxFunction) ⊎ (itemKind s i ≡ RustFunction) → next ≡ itemPlace s i + 14 + 2 * lifetimeCount s i + 2 * form s i + 2 * argCount s i
+    pub alias : itemKind s i ≡ TypeAlias → next ≡ itemPlace s i + 8 + 2 * lifetimeCount s i + 2 * deriveCount s i
+    pub impl : itemKind s i ≡ Impl → next ≡ itemPlace s i + 8 + 2 * lifetimeCount s i
+    pub include : itemKind s i ≡ 0 → next ≡ itemPlace s i + 2
 
 -- ## From a kind to a test
 
@@ -147,15 +158,15 @@ module _ (s : List ℕ) (acc : Accepted s) (i : ℕ) (l : i < items s) where
 
   head-is : (k : ℕ) → k < 9 → typeKind k ≡ true → itemKind s i ≡ k → HeadAt s from
   unfolding itemOf itemKinds
-  head-is zero l t e = no t
+  head-is zero l t e = never t
   head-is (suc zero) l t e = by-kind 1 (head-reads s then list-reads s 64 7 (rows s)) refl e .1 .0
   head-is (suc (suc zero)) l t e = by-kind 2 (head-reads s then repr-reads s (rows s) then limited-reads s 6 2 then variants-reads s) refl e .1 .1 .1 .0
   head-is (suc (suc (suc zero))) l t e = by-kind 3 (head-reads s then limited-reads s 6 4) refl e .1 .0
   head-is (suc (suc (suc (suc zero)))) l t e = by-kind 4 (head-reads s then limited-reads s 6 4) refl e .1 .0
-  head-is (suc (suc (suc (suc (suc zero))))) l t e = no t
-  head-is (suc (suc (suc (suc (suc (suc zero)))))) l t e = no t
+  head-is (suc (suc (suc (suc (suc zero))))) l t e = never t
+  head-is (suc (suc (suc (suc (suc (suc zero)))))) l t e = never t
   head-is (suc (suc (suc (suc (suc (suc (suc zero))))))) l t e = by-kind 7 (head-reads s) refl e .0
-  head-is (suc (suc (suc (suc (suc (suc (suc (suc zero)))))))) l t e = no t
+  head-is (suc (suc (suc (suc (suc (suc (suc (suc zero)))))))) l t e = never t
   head-is (suc (suc (suc (suc (suc (suc (suc (suc (suc k))))))))) l t e = absurd (omega arith)
 
   lifetimes-place : (b : Bool) → isType s i ≡ b → lifetimesPlace s i ≡ (if b then itemPlace s i + 4 else itemPlace s i + 6)
@@ -244,3 +255,77 @@ module _ (s : List ℕ) (acc : Accepted s) (i : ℕ) (l : i < items s) where
   pub item-of : ItemOf s i
   item-of =
       record { known = item-steps .0; as-type = type-is; as-struct = struct-is; as-enum = enum-is; as-function = λ t. function-is (function-kinds t); as-impl = impl-is }
+
+  -- ## How long it is
+
+  -- the place behind the derives, in numbers
+  rest-is : isType s i ≡ true → rest s i ≡ itemPlace s i + 8 + 2 * lifetimeCount s i + 2 * deriveCount s i
+  unfolding rest derivesPlace past lifetimeCount deriveCount if_then_else_
+  rest-is t = rw (lifetimes-place true t) (omega arith)
+
+  struct-size : itemKind s i ≡ Struct → ending ≡ itemPlace s i + 10 + 2 * lifetimeCount s i + 2 * deriveCount s i + 2 * fieldCount s i
+  unfolding itemOf itemKinds fieldCount past
+  struct-size k =
+      let a = by-kind Struct (head-reads s then list-reads s 64 7 (rows s)) refl k in
+      let e : a .0 ≡ rest s i = a .1 .1 ∙ head-ends in
+      let q : ending ≡ rest s i + 2 + 2 * pairAt s (rest s i) = rw e at (a .2 .1) in
+      omega (arith, rest-is (kind-type s i 1 k))
+
+  enum-size : itemKind s i ≡ Enum → ending ≡ itemPlace s i + 16 + 2 * lifetimeCount s i + 2 * deriveCount s i
+  unfolding itemOf itemKinds
+  enum-size k =
+      let a = by-kind Enum (head-reads s then repr-reads s (rows s) then limited-reads s 6 2 then variants-reads s) refl k in
+      let e : a .1 .1 .0 ≡ rest s i = a .1 .1 .1 .1 ∙ head-ends in
+      omega (arith, a .1 .1 .2 .1, a .1 .2 .1, a .2 .1, rest-is (kind-type s i 2 k))
+
+  opaque-size : (itemKind s i ≡ CxxType) ⊎ (itemKind s i ≡ RustType) → ending ≡ itemPlace s i + 10 + 2 * lifetimeCount s i + 2 * deriveCount s i
+  unfolding itemOf itemKinds
+  opaque-size = by
+    where
+      of : (k : ℕ) → typeKind k ≡ true → itemKind s i ≡ k → (p : ℕ) × (HeadAt s from × (p ≡ past s (past s (from + 2)))) × ((pairAt s p < 4) × (ending ≡ p + 2))
+          → ending ≡ itemPlace s i + 10 + 2 * lifetimeCount s i + 2 * deriveCount s i
+      of k t e a = omega (arith, a .1 .1 ∙ head-ends, a .2 .1, rest-is (kind-type s i k e ∙ t))
+
+      by : (itemKind s i ≡ CxxType) ⊎ (itemKind s i ≡ RustType) → ending ≡ itemPlace s i + 10 + 2 * lifetimeCount s i + 2 * deriveCount s i
+      by (inl e) = of 3 refl e (by-kind 3 (head-reads s then limited-reads s 6 4) refl e)
+      by (inr e) = of 4 refl e (by-kind 4 (head-reads s then limited-reads s 6 4) refl e)
+
+  alias-size : itemKind s i ≡ TypeAlias → ending ≡ itemPlace s i + 8 + 2 * lifetimeCount s i + 2 * deriveCount s i
+  unfolding itemOf itemKinds
+  alias-size e = omega (arith, by-kind 7 (head-reads s) refl e .1 ∙ head-ends, rest-is (kind-type s i 7 e))
+
+  function-size : (itemKind s i ≡ CxxFunction) ⊎ (itemKind s i ≡ RustFunction) → ending ≡ itemPlace s i + 14 + 2 * lifetimeCount s i + 2 * form s i + 2 * argCount s i
+  unfolding itemOf itemKinds past lifetimeCount form argCount receiverPlace returnPlace from
+  function-size = by
+    where
+      of : (k : ℕ) → typeKind k ≡ false → itemKind s i ≡ k → FunctionAt s (rows s) from ending → ending ≡ itemPlace s i + 14 + 2 * lifetimeCount s i + 2 * form s i + 2 * argCount s i
+      of k n e h =
+          let z : itemPlace s i + 2 + 4 ≡ itemPlace s i + 6 = omega arith in
+          let there : h .return ≡ past s (itemPlace s i + 6) + 2 + 2 * pairAt s (past s (itemPlace s i + 6)) = rw z at (h .there) in
+          let q : ending ≡ past s (past s (itemPlace s i + 6) + 2 + 2 * pairAt s (past s (itemPlace s i + 6)) + 2) = rw there at (h .ends) in
+          rw (lifetimes-far k e n) (omega arith)
+
+      by : (itemKind s i ≡ CxxFunction) ⊎ (itemKind s i ≡ RustFunction) → ending ≡ itemPlace s i + 14 + 2 * lifetimeCount s i + 2 * form s i + 2 * argCount s i
+      by (inl e) = of 5 refl e (by-kind 5 (function-reads s (rows s) 8) refl e)
+      by (inr e) = of 6 refl e (by-kind 6 (function-reads s (rows s) 4) refl e)
+
+  impl-size : itemKind s i ≡ Impl → ending ≡ itemPlace s i + 8 + 2 * lifetimeCount s i
+  unfolding itemOf itemKinds past lifetimeCount from
+  impl-size k =
+      let a = by-kind Impl (limited-reads s 7 (rows s) then limited-reads s 6 2 then list-reads s 8 6 256) refl k in
+      let e : a .0 ≡ itemPlace s i + 6 = omega (arith, a .1 .1 .1, a .1 .2 .1) in
+      let q : ending ≡ itemPlace s i + 6 + 2 + 2 * pairAt s (itemPlace s i + 6) = rw e at (a .2 .1) in
+      rw (lifetimes-far 8 k refl) (omega arith)
+
+  pub item-sizes : Sizes s i (bodies-of s acc .start (suc (rows s + i)))
+  unfolding itemOf itemKinds from ending
+  item-sizes =
+      record {
+        struct = struct-size;
+        enum = enum-size;
+        opaque = opaque-size;
+        function = function-size;
+        alias = alias-size;
+        impl = impl-size;
+        include = by-kind 0 nothing-read refl;
+      }

@@ -10,10 +10,11 @@ use borrow.Author.Tests.{lt-leb, le-leb}
 use Rattle.rules.specs.declared.Step.{Step}
 use Rattle.rules.specs.declared.Step.the-variants.{Next}
 use Rattle.rules.specs.Base.{if_then_else_}
-use Rattle.rules.specs.Format.{after, pairAt, offset, limited, flagged, signature, rowKinds, bodyOf, row, Accepted}
+use Rattle.rules.specs.Format.{after, end, pairAt, offset, limited, flagged, signature, rowKinds, bodyOf, row, Accepted}
 use Rattle.rules.specs.View.{Ident, Ref, Ptr, SliceRef, Array, Fn, rows, kind, rowName, rowFlags, inner, fnReturn, fnArgCount, fnArg, past}
-use Rattle.laws.proofs.Accepted.Steps.{no, after-is, Reads, _then_, RowOrNone, ListAt, limited-reads, orNone-reads, list-reads}
+use Rattle.laws.proofs.Accepted.Steps.{after-is, Reads, _then_, nothing-read, RowOrNone, ListAt, limited-reads, orNone-reads, list-reads}
 use Rattle.laws.proofs.Accepted.Sheet.{Bodies, bodies-of}
+use Rattle.laws.proofs.Tests.{never}
 
 -- kinds 1 to 8, 10 and 11: one row stands inside
 abbrev pub hasInner : (kind : ℕ) → Bool
@@ -59,6 +60,32 @@ module _ (s : List ℕ) (r : ℕ) where
             ((a .1 .0, rw (a .1 .1) at (a .2 .0)), omega (arith, a .1 .1, a .2 .1));
       }
 
+  -- the five shapes that a body has, by its kind
+  data Shape (k : ℕ) : Type 0 where
+    named : hasInner k ≡ false → bodyOf s r k ≡ limited s 6 256 → Shape k
+    near : k ≤ 6 → bodyOf s r k ≡ limited s 7 r → Shape k
+    far : (n : ℕ) → 6 < k → bodyOf s r k ≡ flagged s n r → Shape k
+    bare : hasInner k ≡ false → bodyOf s r k ≡ end → Shape k
+    fn : hasInner k ≡ false → bodyOf s r k ≡ signature s r → Shape k
+
+  shape : (k : ℕ) → k < 14 → Shape k
+  unfolding bodyOf rowKinds
+  shape zero l = named refl refl
+  shape (suc zero) l = near (omega arith) refl
+  shape (suc (suc zero)) l = near (omega arith) refl
+  shape (suc (suc (suc zero))) l = near (omega arith) refl
+  shape (suc (suc (suc (suc zero)))) l = near (omega arith) refl
+  shape (suc (suc (suc (suc (suc zero))))) l = near (omega arith) refl
+  shape (suc (suc (suc (suc (suc (suc zero)))))) l = near (omega arith) refl
+  shape (suc (suc (suc (suc (suc (suc (suc zero))))))) l = far 4 (omega arith) refl
+  shape (suc (suc (suc (suc (suc (suc (suc (suc zero)))))))) l = far 2 (omega arith) refl
+  shape (suc (suc (suc (suc (suc (suc (suc (suc (suc zero))))))))) l = bare refl refl
+  shape (suc (suc (suc (suc (suc (suc (suc (suc (suc (suc zero)))))))))) l = far 2 (omega arith) refl
+  shape (suc (suc (suc (suc (suc (suc (suc (suc (suc (suc (suc zero))))))))))) l = far 65536 (omega arith) refl
+  shape (suc (suc (suc (suc (suc (suc (suc (suc (suc (suc (suc (suc zero)))))))))))) l = fn refl refl
+  shape (suc (suc (suc (suc (suc (suc (suc (suc (suc (suc (suc (suc (suc zero))))))))))))) l = bare refl refl
+  shape (suc (suc (suc (suc (suc (suc (suc (suc (suc (suc (suc (suc (suc (suc k)))))))))))))) l = absurd (omega arith)
+
 -- ## Row r of an accepted sheet
 
 module _ (s : List ℕ) (acc : Accepted s) (r : ℕ) (l : r < rows s) where
@@ -85,36 +112,30 @@ module _ (s : List ℕ) (acc : Accepted s) (r : ℕ) (l : r < rows s) where
   named-is e = by-kind Ident (limited-reads s 6 256) refl e .0
 
   -- the row inside stands next to the kind
-  near : (k : ℕ) → bodyOf s r k ≡ limited s 7 r → k ≤ 6 → kind s r ≡ k → inner s r < r
+  inner-near : (k : ℕ) → bodyOf s r k ≡ limited s 7 r → k ≤ 6 → kind s r ≡ k → inner s r < r
   unfolding inner if_then_else_ from
-  near k b g e = rw (le-leb (kind s r) 6 (rw e g), inner) (by-kind k (limited-reads s 7 r) b e .0)
+  inner-near k b g e = rw (le-leb (kind s r) 6 (rw e g), inner) (by-kind k (limited-reads s 7 r) b e .0)
 
   -- or behind flags or a length
   flags-are : (k n : ℕ) → bodyOf s r k ≡ flagged s n r → kind s r ≡ k → rowFlags s r < n
   unfolding rowFlags from
   flags-are k n b e = by-kind k (flagged-reads s r n) b e .0 .0
 
-  far : (k n : ℕ) → bodyOf s r k ≡ flagged s n r → 6 < k → kind s r ≡ k → inner s r < r
+  inner-far : (k n : ℕ) → bodyOf s r k ≡ flagged s n r → 6 < k → kind s r ≡ k → inner s r < r
   unfolding inner if_then_else_ from
-  far k n b g e =
+  inner-far k n b g e =
       let z : offset s r + 2 + 2 ≡ offset s r + 4 = omega arith in
       rw (lt-leb (kind s r) 6 (rw e g), inner) (rw z at (by-kind k (flagged-reads s r n) b e .0 .1))
 
   falls : (k : ℕ) → hasInner k ≡ true → kind s r ≡ k → inner s r < r
-  unfolding bodyOf rowKinds
-  falls zero t = no t
-  falls (suc zero) t = near 1 refl (omega arith)
-  falls (suc (suc zero)) t = near 2 refl (omega arith)
-  falls (suc (suc (suc zero))) t = near 3 refl (omega arith)
-  falls (suc (suc (suc (suc zero)))) t = near 4 refl (omega arith)
-  falls (suc (suc (suc (suc (suc zero))))) t = near 5 refl (omega arith)
-  falls (suc (suc (suc (suc (suc (suc zero)))))) t = near 6 refl (omega arith)
-  falls (suc (suc (suc (suc (suc (suc (suc zero))))))) t = far 7 4 refl (omega arith)
-  falls (suc (suc (suc (suc (suc (suc (suc (suc zero)))))))) t = far 8 2 refl (omega arith)
-  falls (suc (suc (suc (suc (suc (suc (suc (suc (suc zero))))))))) t = no t
-  falls (suc (suc (suc (suc (suc (suc (suc (suc (suc (suc zero)))))))))) t = far 10 2 refl (omega arith)
-  falls (suc (suc (suc (suc (suc (suc (suc (suc (suc (suc (suc zero))))))))))) t = far 11 65536 refl (omega arith)
-  falls (suc (suc (suc (suc (suc (suc (suc (suc (suc (suc (suc (suc k)))))))))))) t = no t
+  falls k h e = go (shape s r k (rw e at (row-steps .0)))
+    where
+      go : Shape s r k → inner s r < r
+      go (named n b) = never (sym n ∙ h)
+      go (near g b) = inner-near k b g e
+      go (far n g b) = inner-far k n b g e
+      go (bare n b) = never (sym n ∙ h)
+      go (fn n b) = never (sym n ∙ h)
 
   fn-is : kind s r ≡ Fn → SignatureAt s r from × (ending ≡ past s (from + 4))
   unfolding bodyOf rowKinds
@@ -137,3 +158,20 @@ module _ (s : List ℕ) (acc : Accepted s) (r : ℕ) (l : r < rows s) where
         few-args = λ e. rw z at (fn-is e .0 .args .few);
         arg-falls = λ e. rw z at (fn-is e .0 .args .each);
       }
+
+  -- ## How long it is
+
+  pub row-size : offset s r + 2 ≤ bodies-of s acc .start (suc r)
+  unfolding from ending past
+  row-size = go (shape s r (kind s r) (row-steps .0))
+    where
+      go : Shape s r (kind s r) → from ≤ ending
+      go (named n b) = omega (arith, by-kind (kind s r) (limited-reads s 6 256) b refl .1)
+      go (near g b) = omega (arith, by-kind (kind s r) (limited-reads s 7 r) b refl .1)
+      go (far n g b) = omega (arith, by-kind (kind s r) (flagged-reads s r n) b refl .1)
+      go (bare n b) = omega (arith, by-kind (kind s r) nothing-read b refl)
+      go (fn n b) = omega (arith, by-kind (kind s r) (signature-reads s r) b refl .1)
+
+  pub fn-size : kind s r ≡ Fn → bodies-of s acc .start (suc r) ≡ offset s r + 8 + 2 * fnArgCount s r
+  unfolding from ending past fnArgCount
+  fn-size e = let z : offset s r + 2 + 4 ≡ offset s r + 6 = omega arith in let h = rw z at (fn-is e .1) in omega arith

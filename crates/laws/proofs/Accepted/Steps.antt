@@ -13,17 +13,7 @@ use Rattle.rules.specs.declared.Step.{Step}
 use Rattle.rules.specs.declared.Step.the-variants.{Next, Refused}
 use Rattle.rules.specs.Format.{check, after, _>>_, end, each, pairAt, offset, one, limited, orNone, times, list, typeHead, repr, variants, receivers, receiver}
 use Rattle.rules.specs.View.{kind, past, entry}
-
-pub no : {A : Type 0} → false ≡ true → A
-no h = absurd (let z : _≡_ {A = ℕ} 0 1 = cc in omega arith)
-
-pub or-is : (a b : Bool) → (a || b) ≡ true → (a ≡ true) ⊎ (b ≡ true)
-or-is true b h = inl refl
-or-is false b h = inr h
-
-pub both-are : (a b : Bool) → (a && b) ≡ true → (a ≡ true) × (b ≡ true)
-both-are true b h = (refl, h)
-both-are false b h = no h
+use Rattle.laws.proofs.Tests.{never, or-is, both-are}
 
 -- a refusal is no place
 refused : {A : Type 0} {w p q : ℕ} → Refused w p ≡ Next q → A

@@ -1,0 +1,124 @@
+-- The reasons of a name are as many as stand for it in the list of reasons; on an accepted sheet at most 17,344.
+-- Assumes nothing.
+use Prim.Native.Nat.{ℕ, zero, suc, _+_, _*_, _≤_, _<_}
+use mathlib.Core.Path.{_≡_, refl, sym, ap, _∙_}
+use mathlib.Core.Logic.{_⊎_, inl, inr}
+use mathlib.Core.Bool.{Bool, true, false}
+use mathlib.Core.List.{List, [], _∷_, _++_}
+use native.Mathlib.Omega.{arith}
+use native.Mathlib.Decide.{decLt}
+use lib.Dec.{eqb}
+use lib.ListN.{length, getD, set, replicate, length-append, length-set, length-replicate, List·getD-eq-default}
+use lib.Seq.{getD-set-same, getD-set-other}
+use borrow.Author.Tests.{eqb-true}
+use Rattle.rules.specs.Base.{if_then_else_, over}
+use Rattle.rules.specs.Count.{count}
+use Rattle.rules.specs.Format.{Accepted}
+use Rattle.rules.specs.Names.{Words}
+use Rattle.rules.specs.View.{items, Struct, itemKind, itemIs, isFunction, fieldCount, field, argCount, arg, hasReturn, return}
+use Rattle.rules.specs.Trivial.{insist, reasonsOfItem, reasonsOfRow, reasonNames, tally, reasonsOf}
+use Rattle.rules.specs.Types.{Types, typesOf}
+use Rattle.laws.proofs.Counts.{Eq?, same, other, eq?}
+use Rattle.laws.proofs.Lists.{zeros-get}
+use Rattle.laws.proofs.Accepted.Sheet.{sheet-of}
+use Rattle.laws.proofs.Accepted.Items.{ItemOf, item-of}
+use Rattle.laws.proofs.Collect.{all-few}
+use Rattle.laws.proofs.Bounds.Lengths.{none≤1, one≤1, if-few, over-few}
+
+-- ## The counts
+
+tally-is : (ns t : List ℕ) (n : ℕ) → n < length t → getD (tally t ns) n 0 ≡ getD t n 0 + count n ns
+unfolding tally
+tally-is [] t n l = omega arith
+tally-is (m ∷ ns) t n l = go (eq? n m) (tally-is ns (set t m (getD t m 0 + 1)) n (let e = length-set t m (getD t m 0 + 1) in omega arith))
+  where
+    more : List ℕ
+    more = set t m (getD t m 0 + 1)
+
+    go : Eq? n m → getD (tally more ns) n 0 ≡ getD more n 0 + count n ns → getD (tally more ns) n 0 ≡ getD t n 0 + count n (m ∷ ns)
+    go (same e q) ih =
+        let z : getD more n 0 ≡ getD t n 0 + 1 = rw q (getD-set-same t m (getD t m 0 + 1) 0 (let k : m < length t = rw (← q) l in k)) in
+        rw e (omega arith)
+    go (other e q) ih = rw e (omega (arith, getD-set-other t m n (getD t m 0 + 1) 0 q))
+
+pub tally-length : (ns t : List ℕ) → length (tally t ns) ≡ length t
+unfolding tally
+tally-length [] t = refl
+tally-length (n ∷ ns) t = tally-length ns (set t n (getD t n 0 + 1)) ∙ length-set t n (getD t n 0 + 1)
+
+pub reasons-length : (ns : List ℕ) → length (reasonsOf ns) ≡ 256
+unfolding reasonsOf
+reasons-length ns = tally-length ns (replicate 256 0) ∙ length-replicate {A = ℕ} 256 0
+
+-- as often as the name stands in the list
+pub reasons-are : (ns : List ℕ) (n : ℕ) → n < 256 → getD (reasonsOf ns) n 0 ≡ count n ns
+unfolding reasonsOf
+reasons-are ns n l = tally-is ns (replicate 256 0) n (omega (arith, length-replicate {A = ℕ} 256 0)) ∙ omega (arith, zeros-get 256 n)
+
+count-few : (n : ℕ) (l : List ℕ) → count n l ≤ length l
+count-few n [] = omega arith
+count-few n (m ∷ l) = go (eq? n m) (count-few n l)
+  where
+    go : Eq? n m → count n l ≤ length l → count n (m ∷ l) ≤ length (m ∷ l)
+    go (same e _) ih = rw e (omega arith)
+    go (other e _) ih = rw e (omega arith)
+
+-- ## How many reasons there are
+
+module _ (s : List ℕ) (structs enums cxx : Words) where
+  insist-few : (r : ℕ) → length (insist s structs enums cxx r) ≤ 1
+  unfolding insist
+  insist-few r = search (if-few, one≤1, none≤1)
+
+  row-few : (r : ℕ) → length (reasonsOfRow s structs enums cxx r) ≤ 1
+  unfolding reasonsOfRow
+  row-few r = search (if-few, insist-few, none≤1)
+
+  return-few : (i : ℕ) → length (if hasReturn s i then insist s structs enums cxx (return s i) else []) ≤ 1
+  return-few i = search (if-few, insist-few, none≤1)
+
+  item-few : Accepted s → (i : ℕ) → i < items s → length (reasonsOfItem s structs enums cxx i) ≤ 64
+  unfolding reasonsOfItem itemIs if_then_else_
+  item-few acc i l = go (eqb (itemKind s i) Struct) (isFunction s i) refl refl
+    where
+      item : ItemOf s i
+      item = item-of s acc i l
+
+      fields : List ℕ
+      fields = over (fieldCount s i) (λ j. insist s structs enums cxx (field s i j))
+
+      args : List ℕ
+      args = over (argCount s i) (λ j. insist s structs enums cxx (arg s i j))
+
+      returned : List ℕ
+      returned = if hasReturn s i then insist s structs enums cxx (return s i) else []
+
+      go : (a b : Bool) → eqb (itemKind s i) Struct ≡ a → isFunction s i ≡ b → length (if a then fields else if b then args ++ returned else []) ≤ 64
+      go true b e _ =
+          let few : length fields ≤ fieldCount s i * 1 = over-few (λ j. insist s structs enums cxx (field s i j)) (fieldCount s i) 1 (λ j _. insist-few (field s i j)) in
+          omega (arith, item .as-struct (eqb-true (itemKind s i) Struct e) .few-fields)
+      go false true _ e =
+          let few : length args ≤ argCount s i * 1 = over-few (λ j. insist s structs enums cxx (arg s i j)) (argCount s i) 1 (λ j _. insist-few (arg s i j)) in
+          omega (arith, item .as-function e .few-args, length-append args returned, return-few i)
+      go false false _ _ = omega arith
+
+  pub names-few : Accepted s → (all : List ℕ) → length all ≤ 1024 → length (reasonNames s structs enums cxx all) ≤ 17344
+  unfolding reasonNames
+  names-few acc all h =
+      let a = over-few (reasonsOfItem s structs enums cxx) (items s) 64 (item-few acc) in
+      let b = over-few (λ k. reasonsOfRow s structs enums cxx (getD all k 0)) (length all) 1 (λ k _. row-few (getD all k 0)) in
+      simp length-append (omega (arith, sheet-of s acc .few-items))
+
+pub reasons-few : (s : List ℕ) → Accepted s → (n : ℕ) → getD (typesOf s .reasons) n 0 ≤ 17344
+unfolding typesOf
+reasons-few s acc n = go (decLt n 256)
+  where
+    t : Types
+    t = typesOf s
+
+    names : List ℕ
+    names = reasonNames s (t .structs) (t .enums) (t .cxx) (t .all)
+
+    go : Dec (n < 256) → getD (reasonsOf names) n 0 ≤ 17344
+    go (yes l) = omega (arith, reasons-are names n l, count-few n names, names-few s (t .structs) (t .enums) (t .cxx) acc (t .all) (all-few s acc))
+    go (no l) = omega (arith, List·getD-eq-default (reasonsOf names) 0 (let e = reasons-length names in let m : length (reasonsOf names) ≤ n = omega arith in m))
