@@ -73,3 +73,7 @@ ArgsBelow s i = (j : ℕ) → j < argCount s i → arg s i j < rows s
 
 abbrev pub ReturnBelow : (s : List ℕ) (i : ℕ) → Type 0
 ReturnBelow s i = hasReturn s i ≡ true → return s i < rows s
+
+-- the table of the rows in which `FindLifetimeMut` finds something
+abbrev pub LifetimeMutRows : (s : List ℕ) (t : Types) (table : List ℕ) → Type 0
+LifetimeMutRows s t u = (r : ℕ) → r < rows s → marked u r ≡ find-lifetime-mut s t (rows s) r

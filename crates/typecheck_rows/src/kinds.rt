@@ -69,3 +69,8 @@ pub const ALIASES: usize = 4;
 pub const UNTRUSTED: usize = 5;
 
 pub const REQUIRED_TRIVIAL: usize = 6;
+
+// No row, where a return may be; no item, in a table of items.
+pub const NO_ROW: u16 = 65535;
+
+pub const NO_ITEM: u16 = 255;

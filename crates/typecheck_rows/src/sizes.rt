@@ -89,7 +89,8 @@ fn is_unsized_row(s: &[u8], sets: &[u64; 28], table: &[u8; 1024], r: u16) -> boo
     is_unsized_leaf(s, sets, r)
 }
 
-fn mark(yes: bool) -> u8
+// What a table over the rows holds of a test.
+pub fn mark(yes: bool) -> u8
     ensures { λ x. ⌜ x ≡ bit yes ⌝ }
 {
     if yes { 1 } else { 0 }
