@@ -6,9 +6,9 @@ use mathlib.Core.Bool.{Bool, true, not, _&&_, _||_}
 use Rattle.rules.specs.declared.Diagnostic.{Diagnostic}
 use Rattle.rules.specs.Base.{if_then_else_, anyOf}
 use Rattle.rules.specs.Names.{_∋_}
-use Rattle.rules.specs.View.{shown, isMethod, isFree, selfType, receiverMutable}
+use Rattle.rules.specs.View.{CxxFunction, itemIs, functionUnwind, shown, isMethod, isFree, selfType, receiverMutable}
 use Rattle.rules.specs.Types.{Types}
-use Rattle.rules.specs.Check.{may-have-lifetimes, is-lifetime-mut, check-fn-receiver, check-fn-self-type}
+use Rattle.rules.specs.Check.{may-have-lifetimes, is-lifetime-mut, check-mut-return-restriction, check-fn-receiver, check-fn-self-type}
 use Rattle.names.specs.Table.{wordsAt}
 
 -- no struct, CxxType, RustType or alias has the name
@@ -30,3 +30,7 @@ mutRow s t smaller r = if is-lifetime-mut s t r then true else anyOf smaller (sh
 -- a method whose receiver is mutable, or of a type that may have lifetimes
 abbrev pub receiverMayLend : List ℕ → Types → (i : ℕ) → Bool
 receiverMayLend s t i = isMethod s i && (receiverMutable s i || may-have-lifetimes s t (selfType s i))
+
+-- the &mut return, of a function of plain C++
+abbrev pub fnMutReturn : List ℕ → Types → (i : ℕ) → List Diagnostic
+fnMutReturn s t i = if itemIs s CxxFunction i && not (functionUnwind s i) then check-mut-return-restriction s t i else []

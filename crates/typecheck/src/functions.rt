@@ -1,7 +1,8 @@
-// Function items: messages 39 to 51.
+// Function items: messages 39 to 51, and 56 by mut_return.
 ghost use mathlib.Core.Path.{_≡_};
 ghost use mathlib.Core.Bool.{not, _&&_};
 ghost use Prim.Native.Nat.{_+_, _<_};
+ghost use lib.ListN.{length};
 ghost use Rattle.rules.specs.Base.{over};
 ghost use Rattle.rules.specs.View.{
   RustFunction,
@@ -21,11 +22,14 @@ ghost use Rattle.rules.specs.Check.{
   check-fn-self-type,
   check-fn-arg,
   check-fn-return,
+  check-api-fn,
 };
 ghost use Rattle.errors.specs.Sink.{Reported};
 ghost use Rattle.typecheck_rows.specs.Tables.{holding, UnsizedRows};
-ghost use Rattle.typecheck.specs.Tables.{ArgsBelow, ReturnBelow};
-ghost use Rattle.typecheck.specs.Tests.{undeclared, opaqueSelf, fnKind};
+ghost use Rattle.typecheck.specs.Tables.{withLastType, ArgsBelow, ReturnBelow, SelfNamed, LifetimeMutRows};
+ghost use Rattle.typecheck.specs.Tests.{undeclared, opaqueSelf, fnKind, fnMutReturn};
+use crate::items::check_lifetimes;
+use crate::mut_return::check_mut_return_restriction;
 use errors::Errors;
 use errors::at::arg_error;
 use errors::at::item_error;
@@ -33,6 +37,7 @@ use errors::at::return_error;
 use names::has;
 use sheet::functions::function_trusted;
 use sheet::functions::function_unsafe;
+use sheet::functions::function_unwind;
 use sheet::functions::has_return;
 use sheet::functions::is_free;
 use sheet::functions::is_method;
@@ -61,7 +66,7 @@ use typecheck_rows::sizes::is_unsized;
 
 // ## Lifetimes
 
-pub fn check_fn_generics(s: &[u8], cx: Errors, out: &mut [u64], i: u16) -> Errors
+fn check_fn_generics(s: &[u8], cx: Errors, out: &mut [u64], i: u16) -> Errors
     ensures { λ e. ⌜ ((t : Types) → Reported (now (out .entry)) cx (check-fn-generics (now (s .entry)) t i) e (now (out .exit))) ⌝ }
 {
     let generic = 0 < lifetime_count(s, i);
@@ -123,7 +128,7 @@ fn check_fn_self_type(s: &[u8], sets: &[u64; 28], cx: Errors, out: &mut [u64], i
     item_error(cx, out, is_undeclared(sets, n), 46, i, 0)
 }
 
-pub fn check_fn_kind(s: &[u8], sets: &[u64; 28], cx: Errors, out: &mut [u64], i: u16) -> Errors
+fn check_fn_kind(s: &[u8], sets: &[u64; 28], cx: Errors, out: &mut [u64], i: u16) -> Errors
     ensures { λ e. ⌜ ((t : Types) → Reported (now (out .entry)) cx (fnKind (now (s .entry)) (holding (now (sets .entry)) t) i) e (now (out .exit))) ⌝ }
 {
     if is_method(s, i) {
@@ -173,7 +178,7 @@ fn check_fn_arg(
     cx
 }
 
-pub fn check_fn_args(
+fn check_fn_args(
     s: &[u8],
     sets: &[u64; 28],
     sizes: &[u8; 1024],
@@ -199,7 +204,7 @@ pub fn check_fn_args(
     e
 }
 
-pub fn check_fn_return(
+fn check_fn_return(
     s: &[u8],
     sets: &[u64; 28],
     sizes: &[u8; 1024],
@@ -221,4 +226,48 @@ pub fn check_fn_return(
         return return_error(cx, out, true, 51, i, describe(s, sets, r));
     }
     cx
+}
+
+// ## The whole
+
+// Only a function of plain C++: neither of Rust nor CxxUnwind.
+fn check_fn_mut_return(
+    s: &[u8],
+    last_type: &[u8; 256],
+    muts: &[u8; 1024],
+    cx: Errors,
+    out: &mut [u64],
+    i: u16,
+) -> Errors
+    ensures { λ e. ⌜ ((t : Types) → LifetimeMutRows (now (s .entry)) (withLastType (now («last_type» .entry)) t) (now (muts .entry)) → ArgsBelow (now (s .entry)) i →
+        length (now («last_type» .entry)) ≡ 256 → SelfNamed (now (s .entry)) i →
+        Reported (now (out .entry)) cx (fnMutReturn (now (s .entry)) (withLastType (now («last_type» .entry)) t) i) e (now (out .exit))) ⌝ }
+{
+    if and(item_is(s, CXX_FUNCTION, i), !function_unwind(s, i)) {
+        return check_mut_return_restriction(s, last_type, muts, cx, out, i);
+    }
+    cx
+}
+
+pub fn check_api_fn(
+    s: &[u8],
+    sets: &[u64; 28],
+    last_type: &[u8; 256],
+    sizes: &[u8; 1024],
+    muts: &[u8; 1024],
+    cx: Errors,
+    out: &mut [u64],
+    i: u16,
+) -> Errors
+    ensures { λ e. ⌜ ((t : Types) → UnsizedRows (now (s .entry)) (holding (now (sets .entry)) (withLastType (now («last_type» .entry)) t)) (now (sizes .entry)) →
+        LifetimeMutRows (now (s .entry)) (holding (now (sets .entry)) (withLastType (now («last_type» .entry)) t)) (now (muts .entry)) →
+        ArgsBelow (now (s .entry)) i → ReturnBelow (now (s .entry)) i → length (now («last_type» .entry)) ≡ 256 → SelfNamed (now (s .entry)) i →
+        Reported (now (out .entry)) cx (check-api-fn (now (s .entry)) (holding (now (sets .entry)) (withLastType (now («last_type» .entry)) t)) i) e (now (out .exit))) ⌝ }
+{
+    let cx = check_fn_generics(s, cx, out, i);
+    let cx = check_lifetimes(s, cx, out, i);
+    let cx = check_fn_kind(s, sets, cx, out, i);
+    let cx = check_fn_args(s, sets, sizes, cx, out, i);
+    let cx = check_fn_return(s, sets, sizes, cx, out, i);
+    check_fn_mut_return(s, last_type, muts, cx, out, i)
 }

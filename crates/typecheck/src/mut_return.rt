@@ -1,6 +1,5 @@
 // A &mut return that no argument can bring: message 56, with its visitor `FindLifetimeMut`.
 ghost use mathlib.Core.Path.{_≡_};
-ghost use mathlib.Core.Bool.{true, _&&_, _||_};
 ghost use Prim.Native.Nat.{_+_, _<_};
 ghost use lib.ListN.{length};
 ghost use Rattle.rules.specs.Base.{anyOf};
@@ -13,9 +12,6 @@ ghost use Rattle.rules.specs.View.{
   orNothing,
   entries,
   shown,
-  isMethod,
-  selfType,
-  receiverMutable,
 };
 ghost use Rattle.rules.specs.Types.{Types};
 ghost use Rattle.rules.specs.Check.{
@@ -26,7 +22,7 @@ ghost use Rattle.rules.specs.Check.{
 };
 ghost use Rattle.errors.specs.Sink.{Reported};
 ghost use Rattle.typecheck_rows.specs.Tables.{marked};
-ghost use Rattle.typecheck.specs.Tables.{withLastType, ArgsBelow, LifetimeMutRows};
+ghost use Rattle.typecheck.specs.Tables.{withLastType, ArgsBelow, SelfNamed, LifetimeMutRows};
 ghost use Rattle.typecheck.specs.Tests.{mutRow, receiverMayLend};
 use crate::functions::arg_at;
 use crate::tables::item_of;
@@ -172,7 +168,7 @@ fn returns_mut(s: &[u8], i: u16) -> bool
 
 // A method whose receiver is mutable, or of a type that may have lifetimes.
 fn may_receiver_lend(s: &[u8], last_type: &[u8; 256], i: u16) -> bool
-    ensures { λ x. ⌜ ((t : Types) → length (now («last_type» .entry)) ≡ 256 → (isMethod (now (s .entry)) i ≡ true → selfType (now (s .entry)) i < 256) →
+    ensures { λ x. ⌜ ((t : Types) → length (now («last_type» .entry)) ≡ 256 → SelfNamed (now (s .entry)) i →
         x ≡ receiverMayLend (now (s .entry)) (withLastType (now («last_type» .entry)) t) i) ⌝ }
 {
     if !is_method(s, i) {
@@ -193,7 +189,7 @@ pub fn check_mut_return_restriction(
     i: u16,
 ) -> Errors
     ensures { λ e. ⌜ ((t : Types) → LifetimeMutRows (now (s .entry)) (withLastType (now («last_type» .entry)) t) (now (muts .entry)) → ArgsBelow (now (s .entry)) i →
-        length (now («last_type» .entry)) ≡ 256 → (isMethod (now (s .entry)) i ≡ true → selfType (now (s .entry)) i < 256) →
+        length (now («last_type» .entry)) ≡ 256 → SelfNamed (now (s .entry)) i →
         Reported (now (out .entry)) cx (check-mut-return-restriction (now (s .entry)) (withLastType (now («last_type» .entry)) t) i) e (now (out .exit))) ⌝ }
 {
     if function_unsafe(s, i) {
