@@ -3,8 +3,8 @@ ghost use mathlib.Core.List.{[], _∷_, _++_, flatMap};
 ghost use Prim.Native.Nat.{_+_, _*_, _≤_};
 ghost use lib.ListN.{length};
 ghost use Rattle.layout.specs.Layout.{Stored, low2, setBytes};
-use rules::NameSet;
 use super::numbers;
+use rules::NameSet;
 
 // A set's four words.
 fn put_set(out: &mut [u8], at: usize, set: NameSet)
@@ -23,10 +23,9 @@ pub fn put_sets(out: &mut [u8], at: usize, list: [NameSet; 8])
     requires { ⌜ at + 256 ≤ length (now out) ⌝ }
     ensures { λ _. ⌜ Stored (now (out .entry)) at 256 (flatMap setBytes list) (now (out .exit)) ⌝ }
 {
-    let all = list;
     let mut k = 0;
     while k < 8 {
-        put_set(out, at + 32 * k, all[k]);
+        put_set(out, at + 32 * k, list[k]);
         k += 1;
     }
 }

@@ -23,8 +23,10 @@ pub fn put2(out: &mut [u8], at: usize, x: u64)
     requires { ⌜ at + 2 ≤ length (now out) ⌝ }
     ensures { λ _. ⌜ Stored (now (out .entry)) at 2 (low2 x) (now (out .exit)) ⌝ }
 {
-    put1(out, at, (x % 256) as u8);
-    put1(out, at + 1, (x / 256 % 256) as u8);
+    let low = (x % 256) as u8;
+    let high = (x / 256 % 256) as u8;
+    put1(out, at, low);
+    put1(out, at + 1, high);
 }
 
 pub fn put4(out: &mut [u8], at: usize, x: u64)

@@ -6,9 +6,9 @@ ghost use lib.ListN.{length, getD, take};
 ghost use Rattle.rules.specs.Diagnostics.{letterOf, numbersOf};
 ghost use Rattle.errors.specs.Codes.{recordOf};
 ghost use Rattle.layout.specs.Layout.{Stored, recordBytes};
+use super::numbers;
 use rules::Diagnostic;
 use rules::Place;
-use super::numbers;
 
 fn letter(p: Place) -> u8
     ensures { λ r. ⌜ r ≡ letterOf p ⌝ }
