@@ -6,7 +6,7 @@ use Rattle.layout.proofs.write.Statement.{statement}
 use Rattle.layout.proofs.write.Tie as tie
 
 returns : tie.Need-returns
-returns c = nothing (c .if1 .taken)
+returns c = nothing (search needs)
 
 fitting-requires : tie.Need-fitting-requires
 fitting-requires c κs = search needs
