@@ -3,14 +3,11 @@
 use mathlib.Core.Path.{_≡_, refl, _∙_, ap}
 use Prim.Native.Nat.{ℕ}
 use mathlib.Core.List.{List, _∷_, map}
-use native.Mathlib.Omega.{arith}
 use Rattle.rules.specs.declared.Diagnostic.{Diagnostic}
 use Rattle.rules.specs.Diagnostics.{Small}
 use Rattle.rules.specs.Format.{Accepted}
 use Rattle.rules.specs.Report.{report}
-use Rattle.laws.proofs.Sound.{All, none, more}
-use Rattle.laws.proofs.Collect.{all-below}
-use Rattle.laws.proofs.Bounds.Reasons.{reasons-few}
+use Rattle.laws.proofs.Forms.{All, none, more}
 use Rattle.laws.proofs.SmallReport.{small-report}
 use Rattle.errors.specs.Codes.{codeOf, recordOf}
 use Rattle.errors.proofs.Inverse.{record-code}
@@ -22,4 +19,4 @@ records-back (more {x = d} {xs = ds} p ps) =
     ∙ ap {B = List Diagnostic} (λ (xs : List Diagnostic). d ∷ xs) (records-back ps)
 
 pub report-back : (s : List ℕ) → Accepted s → map recordOf (map codeOf (report s)) ≡ report s
-report-back s acc = records-back (small-report s acc (all-below s acc) (λ n. omega (arith, reasons-few s acc n)))
+report-back s acc = records-back (small-report s acc)

@@ -18,6 +18,12 @@ use Rattle.errors.specs.declared.Errors.{Errors}
 use Rattle.errors.specs.Codes.{codeOf}
 use Rattle.errors.specs.Sink.{most, putFrom, countFrom, Reported, counted}
 use Rattle.errors.proofs.Window.{put-is}
+use lib.Dec.{leb}
+use borrow.Author.Tests.{leb-true}
+use Rattle.rules.specs.Format.{check, read}
+use Rattle.laws.proofs.Accepted.{accepted-is}
+use Rattle.laws.proofs.Accepted.Steps.{after-is, check-is}
+use Rattle.types.specs.Post.{Collectable}
 use Rattle.bridge_core.specs.Run.{answerBy, codesBy, scratchBy, kept, Ran}
 
 module _ (s scratch out : List ℕ) (from : ℕ) where
@@ -57,3 +63,10 @@ module _ (ds : List Diagnostic) (few : length ds ≤ most) (out out′ : List �
       ∙ put-is (cx .from) 0 ds out (omega arith)
       ∙ ap (λ (i : ℕ). sets out i (drop (cx .from - 0) (map codeOf ds))) none
       ∙ ap (λ (i : ℕ). sets out 0 (drop i (map codeOf ds))) all
+
+-- a sheet that is accepted with a scratch of that length can be collected
+pub collectable : (s scratch : List ℕ) (e : ℕ) → readWith (length scratch) s ≡ Next e → Collectable s scratch
+unfolding readWith
+collectable s scratch e h =
+    let asked = after-is (check (leb 4096 (length scratch)) 1 0 0) (λ _. read s) h in
+    record { accepted = accepted-is (length scratch) s e h; long = leb-true 4096 (length scratch) (check-is (leb 4096 (length scratch)) 1 0 (asked .1) .0) }

@@ -26,7 +26,15 @@ pub fn run(s: &[u8], scratch: &mut [u8], out: &mut [u64], from: usize) -> Answer
     let rows = t.rows;
     let cx = sorted.errors;
     let cx = typecheck::do_typecheck(
-        s, &sets, &untrusted, &last_type, &reasons, scratch, rows, cx, out,
+        s,
+        &sets,
+        &untrusted,
+        &last_type,
+        &reasons,
+        scratch,
+        rows,
+        cx,
+        out,
     );
     types::clear(scratch);
     crate::answers::accepted(&sets, improper, reasons, order, tiers, cx.total)
