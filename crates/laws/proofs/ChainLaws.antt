@@ -1,4 +1,5 @@
--- Items, fields and chains.
+-- Two chains joined.
+-- Assumes nothing.
 use Prim.Native.Nat.{ℕ}
 use Rattle.rules.specs.Graph.{Graph}
 use Rattle.laws.proofs.Chains.{Edge, Chain, edge, link}

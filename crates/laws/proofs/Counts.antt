@@ -1,4 +1,5 @@
 -- How often a number stands in a list, where it first stands, and what a store does to the count.
+-- Assumes nothing.
 use mathlib.Core.Path.{_≡_, refl, sym, ap, _∙_, subst}
 use mathlib.Core.Logic.{_≢_}
 use mathlib.Core.Bool.{Bool, true, false, not}

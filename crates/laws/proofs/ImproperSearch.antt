@@ -1,4 +1,5 @@
--- The search for improper structs as improper.rs has it, pass after pass until one finds none, over any kind of set of names; and what it finds, over chains.
+-- The search for improper structs, pass after pass until one finds none, over any kind of set of names, finds exactly the names with an improper chain.
+-- Assumes nothing.
 use mathlib.Core.Path.{_≡_, refl, sym, _∙_, subst}
 use mathlib.Core.Logic.{_≢_, _⊎_, inl, inr, _↔_}
 use mathlib.Core.Bool.{Bool, true, false, _||_}

@@ -1,4 +1,5 @@
--- Tiers: the longest chain from an item, 255 where a chain from it never ends.
+-- The tier of an item of any graph is the longest chain from it, and 255 where a chain from it never ends.
+-- Assumes nothing.
 use mathlib.Core.Path.{_≡_, refl, sym, _∙_, subst}
 use mathlib.Core.Logic.{_≢_, _⊎_, inl, inr, _↔_}
 use mathlib.Core.Bool.{Bool, true, false, not, _||_}

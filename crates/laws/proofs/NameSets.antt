@@ -1,4 +1,5 @@
--- Sets of names 0 to 255, four words of 64 bits.
+-- What a set of names contains: the empty set nothing, `add` one name more; and the search over such sets finds the improper names.
+-- Assumes nothing.
 use mathlib.Core.Path.{_≡_, refl, sym, ap, _∙_}
 use mathlib.Core.Logic.{_≢_, _↔_}
 use mathlib.Core.Bool.{true, false, _||_}

@@ -3,10 +3,11 @@
 use Prim.Native.Nat.{ℕ, zero, suc, _+_, _≤_, _<_, min}
 use mathlib.Core.Path.{_≡_, refl, sym, ap, _∙_, subst}
 use mathlib.Core.Logic.{_⊎_, inl, inr, _↔_}
-use mathlib.Core.Bool.{false, _&&_}
+use mathlib.Core.Bool.{Bool, _&&_}
 use mathlib.Core.List.{List}
 use native.Mathlib.Omega.{arith}
-use lib.Dec.{T, ltb, ltb→lt, lt→ltb}
+use lib.Dec.{T}
+use borrow.Author.Tests.{lt-ltb, le-ltb}
 use lib.ListN.{length, getD, take, drop, replicate, length-replicate}
 use lib.Seq.{sets, sets-eq, take-at}
 use Rattle.rules.specs.Diagnostics.{bit}
@@ -22,10 +23,9 @@ use Rattle.laws.proofs.TierRule.{TierRule}
 use Rattle.rules.specs.Order.{graphOf}
 use Rattle.rules.specs.Rule3.{IsStruct, Holds, Tiers3, structsTo, one, more}
 use Rattle.rules.specs.Rule3 as R
-use Rattle.laws.proofs.Counts.{Eq?, same, other, eq?}
 use Rattle.laws.proofs.WalkOrder.{in-order, each-once, chain-end}
 use Rattle.laws.proofs.WalkCalls.{order-length, order-few}
-use Rattle.laws.proofs.Sums.{sumTo}
+use Rattle.laws.proofs.Sums.{sumTo, sum-cut}
 use Rattle.laws.proofs.Tests.{is-true, is-false}
 use Rattle.laws.proofs.TierTable.{table-all, table-none}
 use Rattle.laws.proofs.TierRule.{tier-rule}
@@ -66,25 +66,14 @@ module _ (s : List ℕ) (fits : Fits s) where
 
   -- ## The order's places
 
-  struct-bit : ℕ → ℕ
-  struct-bit x = bit (ltb x (items s) && itemIs s Struct x)
-
   sum-low : (k : ℕ) → k ≤ items s → sumTo k (λ x. bit (G .struct x)) ≡ structsTo s k
   unfolding sumTo structsTo
   sum-low zero l = refl
-  sum-low (suc k) l = rw (is-true (ltb k (items s)) (lt→ltb k (items s) l), sum-low k (omega arith))
+  sum-low (suc k) l = rw (lt-ltb k (items s) l, sum-low k (omega arith))
 
   sum-high : (k : ℕ) → items s ≤ k → sumTo k (λ x. bit (G .struct x)) ≡ structsTo s (items s)
-  unfolding sumTo
-  sum-high zero l = sum-low zero (omega arith) ∙ ap (structsTo s) (let e : 0 ≡ items s = omega arith in e)
-  sum-high (suc k) l = go (eq? (items s) (suc k)) (sum-high k)
-    where
-      go : Eq? (items s) (suc k) → (items s ≤ k → sumTo k (λ x. bit (G .struct x)) ≡ structsTo s (items s))
-          → sumTo k (λ x. bit (G .struct x)) + bit (G .struct k) ≡ structsTo s (items s)
-      go (same _ e) ih = sum-low (suc k) (omega arith) ∙ ap (structsTo s) (sym e)
-      go (other _ e) ih =
-          let z : ltb k (items s) ≡ false = is-false (ltb k (items s)) (λ t. let l′ = ltb→lt k (items s) t in omega arith) in
-          rw z (omega (arith, ih (omega arith)))
+  sum-high k l =
+      sum-cut (items s) k (λ x. bit (G .struct x)) l (λ x m. ap (λ (b : Bool). bit (b && itemIs s Struct x)) (le-ltb x (items s) m)) ∙ sum-low (items s) (omega arith)
 
   pub places-are : length sorted ≡ structsTo s (items s)
   places-are = order-length G 255 (good s fits) ∙ sum-high 255 (fits .few)

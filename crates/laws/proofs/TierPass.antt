@@ -1,5 +1,6 @@
 -- One pass over the order finds all tiers: each struct item begins at 255, and gets its tier when its turn comes. An item that is asked for before its turn lies
 -- on a cycle, so its 255 is right already. `pass-is`: the pass gives the tiers of specs/Tiers.
+-- Assumes nothing.
 use mathlib.Core.Path.{_≡_, refl, sym, ap, _∙_, subst}
 use mathlib.Core.Logic.{_≢_, _⊎_, inl, inr, _↔_}
 use mathlib.Core.Bool.{Bool, true, false}

@@ -1,4 +1,5 @@
--- The rule of tiers, of any table of tiers.
+-- A table that holds the longest chains meets the rule of tiers.
+-- Assumes nothing.
 use mathlib.Core.Path.{_≡_, sym, ap, _∙_}
 use mathlib.Core.Logic.{_≢_, _⊎_, inl, inr, _↔_}
 use Prim.Native.Nat.{ℕ, suc, _≤_, min}

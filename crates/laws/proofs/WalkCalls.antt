@@ -1,4 +1,5 @@
--- The visits that the walk makes, without the walk: the struct items, and their fields that lead to one.
+-- The visits that the walk makes, counted without the walk: the struct items, and their fields that lead to one.
+-- Assumes nothing.
 use mathlib.Core.Path.{_≡_, refl, sym, ap, _∙_, subst}
 use mathlib.Core.Bool.{Bool, true, false, not}
 use mathlib.Core.List.{List, [], _∷_}

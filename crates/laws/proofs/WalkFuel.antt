@@ -1,4 +1,5 @@
--- Fuel: more than the number of items not met yet is enough, and how much more does not matter.
+-- Fuel of the walk: more than the number of items not met yet is enough, and how much more does not matter.
+-- Assumes nothing.
 use mathlib.Core.Path.{_≡_, refl, ap, _∙_}
 use mathlib.Core.Bool.{Bool, true, false}
 use mathlib.Core.List.{List}

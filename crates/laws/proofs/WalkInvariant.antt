@@ -1,4 +1,5 @@
--- What the walk keeps. A state is the marks m, the order so far o, and the number c of codes so far.
+-- What the walk keeps, visit by visit. A state is the marks m, the order so far o, and the number c of messages so far.
+-- Assumes nothing.
 use mathlib.Core.Path.{_≡_, refl, sym, ap, _∙_, subst}
 use mathlib.Core.Logic.{_≢_, _⊎_, inl, inr}
 use mathlib.Core.Bool.{Bool, true, false, _&&_}

@@ -1,4 +1,5 @@
--- Rule 3 of the order and of the cyclic diagnostics, over chains.
+-- The walk's order has each struct item once, after what it holds where no chain returns, and a message exactly where one does.
+-- Assumes nothing.
 use mathlib.Core.Path.{_≡_, refl, sym, _∙_, subst}
 use mathlib.Core.Logic.{_⊎_, inl, inr, _↔_}
 use mathlib.Core.Bool.{Bool, true, false}

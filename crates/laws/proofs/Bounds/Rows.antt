@@ -1,4 +1,5 @@
 -- How many records a row has: at most three, and an Fn at most one more than its arguments; so no more than its bytes, and two for its offset.
+-- Assumes nothing.
 use Prim.Native.Nat.{ℕ, zero, suc, _+_, _*_, _≤_, _<_}
 use mathlib.Core.Path.{_≡_, refl}
 use mathlib.Core.Logic.{_≢_}
