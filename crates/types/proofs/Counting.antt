@@ -56,7 +56,8 @@ module _ (s sets : List ℕ) (r : ℕ) where
   plain-not e h = rw (sym e ∙ h) count-none
 
   module _ {n : ℕ} {p structs enums cxx a b : Bool} (is-plain : p ≡ is s Ident r) (plain : p ≡ true) (named : n ≡ rowName s r)
-      (in-structs : structs ≡ (wordsAt sets 0 ∋ n)) (in-enums : enums ≡ (wordsAt sets 1 ∋ n)) (in-cxx : cxx ≡ (wordsAt sets 2 ∋ n)) (first : a ≡ (cxx && not structs))
+      (in-structs : structs ≡ (wordsAt sets 0 ∋ n)) (in-enums : enums ≡ (wordsAt sets 1 ∋ n)) (in-cxx : cxx ≡ (wordsAt sets 2 ∋ n))
+      (first : a ≡ (cxx && not structs))
       (second : b ≡ (a && not enums)) where
     plain-is : ofPlain s sets r ≡ (if b then n ∷ [] else [])
     unfolding insist
@@ -139,7 +140,8 @@ module _ {reasons before : List ℕ} where
   unfolding namesBelow
   required-none h = record { long = h .long; here = h .none; others = λ j _ _. refl }
 
-  pub required-more : {n : ℕ} {yes : Bool} {u v : List ℕ} → RequiredTo reasons before n u → yes ≡ ltb 0 (getD reasons n 0) → EnteredIf u 6 yes n v → RequiredTo reasons before (n + 1) v
+  pub required-more : {n : ℕ} {yes : Bool} {u v : List ℕ} → RequiredTo reasons before n u → yes ≡ ltb 0 (getD reasons n 0) → EnteredIf u 6 yes n v
+      → RequiredTo reasons before (n + 1) v
   unfolding namesBelow if_then_else_
   required-more {n} {yes} {u} {v} p e q =
       record { long = q .long; here = rw (add-one n) (next ∙ by (ltb 0 (getD reasons n 0))); others = λ j l o. q .others j l o ∙ p .others j l o }

@@ -43,7 +43,8 @@ module _ {s t : List ℕ} {i n : ℕ} {names : NameSet} (h : ReadyNames s i n t 
     unfolding if_then_else_
     type-shared e q = q ∙ sym (rw (old, e) at rule)
 
-    pub type-cxx : {extern r : Bool} → shared ≡ false → extern ≡ itemIs s CxxType i → extern ≡ true → r ≡ (cxx || (not structs && not enums)) → r ≡ duplicateType s i
+    pub type-cxx : {extern r : Bool} → shared ≡ false → extern ≡ itemIs s CxxType i → extern ≡ true → r ≡ (cxx || (not structs && not enums))
+        → r ≡ duplicateType s i
     unfolding if_then_else_
     type-cxx e c d q = q ∙ sym (rw (old, e, sym c ∙ d) at rule)
 

@@ -56,7 +56,8 @@ module _ {s b : List ℕ} {n : ℕ} where
       by zero l = absurd (omega arith)
       by (suc f) l = rw (sym (h .walk .held .marks row (few h)) ∙ e, skipVisit) (record { held = h .walk .held; kept = λ i _. refl })
 
-  pub new : {d e l : List ℕ} {row m r : ℕ} → Ready s b n row → marked b row ≡ false → Grown b d m (rowsOf b n ++ row ∷ []) → shown s row ≡ l → Walks s d e m row l r
+  pub new : {d e l : List ℕ} {row m r : ℕ} → Ready s b n row → marked b row ≡ false → Grown b d m (rowsOf b n ++ row ∷ []) → shown s row ≡ l
+      → Walks s d e m row l r
       → Walks s b e n (suc row) (row ∷ []) r
   unfolding skipVisit
   new {d} {e} {l} {row} {m} {r} h o g q w = record { grown = by }
@@ -86,7 +87,8 @@ module _ {s b : List ℕ} {n : ℕ} (at : ℕ) where
   unfolding over
   to-none h = still h
 
-  pub to-more : {d e : List ℕ} {bound x m r : ℕ} (j : ℕ) → Walks s b d n bound (firstRows s at j) m → x ≡ entry s at j → x < bound → Walks s d e m (suc x) (x ∷ []) r
+  pub to-more : {d e : List ℕ} {bound x m r : ℕ} (j : ℕ) → Walks s b d n bound (firstRows s at j) m → x ≡ entry s at j → x < bound
+      → Walks s d e m (suc x) (x ∷ []) r
       → Walks s b e n bound (firstRows s at (j + 1)) r
   unfolding over
   to-more j w q l v = rw (add-one j, ← q) (further w (wider v (omega arith)))

@@ -100,16 +100,19 @@ module _ {s b d : List ℕ} {m : ℕ} (acc : Accepted s) (grown : Grown b d m (t
   unfolding reasonsOf
   reasons-by x y z h =
       let few = names-few s x y z acc (typesOf s .all) (all-few s acc) in
-      h .is ∙ ap (countAll (replicate 256 0)) (names-are x y z) ∙ count-tally (reasonNames s x y z (typesOf s .all)) (replicate 256 0) (λ n. omega (arith, zeros-get 256 n))
+      h .is ∙ ap (countAll (replicate 256 0)) (names-are x y z)
+      ∙ count-tally (reasonNames s x y z (typesOf s .all)) (replicate 256 0) (λ n. omega (arith, zeros-get 256 n))
 
-  pub reasons-are : {sets t : List ℕ} → Named s (items s) sets → Counted (replicate 256 0) (over (items s) (ofItem s sets) ++ over m (λ k. ofRow s sets (pairAt d (2 * k)))) t
+  pub reasons-are : {sets t : List ℕ} → Named s (items s) sets
+      → Counted (replicate 256 0) (over (items s) (ofItem s sets) ++ over m (λ k. ofRow s sets (pairAt d (2 * k)))) t
       → t ≡ typesOf s .reasons
   unfolding typesOf
   reasons-are {sets} named h =
       reasons-by (wordsAt sets 0) (wordsAt sets 1) (wordsAt sets 2) h
       ∙ ap (λ (x : Words). reasonsOf (reasonNames s x (wordsAt sets 1) (wordsAt sets 2) (collectedTo s (items s)))) (named .structs)
       ∙ ap (λ (y : Words). reasonsOf (reasonNames s (namesTo s (entersStructs s) (items s)) y (wordsAt sets 2) (collectedTo s (items s)))) (named .enums)
-      ∙ ap (λ (z : Words). reasonsOf (reasonNames s (namesTo s (entersStructs s) (items s)) (namesTo s (entersEnums s) (items s)) z (collectedTo s (items s)))) (named .cxx)
+      ∙ ap (λ (z : Words). reasonsOf
+      (reasonNames s (namesTo s (entersStructs s) (items s)) (namesTo s (entersEnums s) (items s)) z (collectedTo s (items s)))) (named .cxx)
 
 -- ## The scratch at the end
 
@@ -120,7 +123,8 @@ rest-kept {b} {d} g e =
 
 -- ## All together
 
-pub whole : {s b e d out out′ : List ℕ} {cx cx′ : Errors} {m : ℕ} {sets a u t reasons sets′ : List ℕ} → Collectable s b → e ≡ cleared b → Grown e d m (typesOf s .all)
+pub whole : {s b e d out out′ : List ℕ} {cx cx′ : Errors} {m : ℕ} {sets a u t reasons sets′ : List ℕ} → Collectable s b → e ≡ cleared b
+    → Grown e d m (typesOf s .all)
     → length d ≡ length e
     → Declared s sets a u t out cx out′ cx′
     → Counted (replicate 256 0) (over (items s) (ofItem s sets) ++ over m (λ k. ofRow s sets (pairAt d (2 * k)))) reasons
