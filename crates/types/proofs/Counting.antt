@@ -1,20 +1,20 @@
 -- Reasons are counted one list after another; a list of reasons by the tests that the code makes; and where a sheet's reasons are few enough, the counts that
 -- stop are the rules' own.
 -- Assumes nothing.
-use Prim.Native.Nat.{ℕ, zero, suc, _+_, _*_, _/_, _<_, _≤_}
+use Prim.Native.Nat.{ℕ, _+_, _<_}
 use mathlib.Core.Path.{_≡_, refl, sym, ap, _∙_}
 use mathlib.Core.Bool.{Bool, true, false, not, _&&_, _||_}
 use mathlib.Core.List.{List, [], _∷_, _++_}
 use native.Mathlib.Omega.{arith}
 use native.Mathlib.Numerals.{add-one}
 use native.Mathlib.Decide.{decLt}
-use lib.ListN.{length, getD, set, replicate}
+use lib.ListN.{length, getD, set}
 use lib.Dec.{ltb, eqb}
-use borrow.Author.Tests.{lt-ltb, eq-eqb, ne-eqb}
+use borrow.Author.Tests.{eq-eqb, ne-eqb}
 use Rattle.rules.specs.Base.{if_then_else_, over}
 use Rattle.rules.specs.Format.{pairAt}
 use Rattle.rules.specs.Names.{Words, add, namesBelow, _∋_}
-use Rattle.rules.specs.View.{Ident, RustBox, RustVec, SliceRef, kind, is, rowName, inner, entry, Struct, items, itemKind, itemIs, isFunction, rest, fieldCount, field, returnPlace, hasReturn, return, argCount, arg}
+use Rattle.rules.specs.View.{Ident, RustBox, RustVec, SliceRef, kind, is, rowName, inner, entry, itemKind, itemIs, isFunction, rest, fieldCount, field, returnPlace, hasReturn, return, argCount, arg}
 use Rattle.rules.specs.Trivial.{insist, reasonsOfItem, reasonsOfRow, requiredOf}
 use Rattle.laws.proofs.Tests.{never, both-are}
 use Rattle.names.specs.Table.{wordsAt}

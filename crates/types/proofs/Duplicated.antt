@@ -1,17 +1,17 @@
 -- What the duplicate tests say by the tables as of an item is what the rules say of the items before it.
 -- Assumes nothing.
-use Prim.Native.Nat.{ℕ, _+_, _<_}
-use mathlib.Core.Path.{_≡_, refl, sym, ap, _∙_}
+use Prim.Native.Nat.{ℕ}
+use mathlib.Core.Path.{_≡_, refl, sym, _∙_}
 use mathlib.Core.Bool.{Bool, true, false, not, _&&_, _||_}
 use mathlib.Core.List.{List}
 use lib.Dec.{leb, eqb}
 use Rattle.rules.specs.declared.NameSet.{NameSet}
 use Rattle.rules.specs.Base.{if_then_else_}
-use Rattle.rules.specs.Names.{Words, _∋_}
-use Rattle.rules.specs.View.{Struct, Enum, CxxType, itemKind, itemIs, isType, isFunction, itemName}
-use Rattle.rules.specs.Collect.{namesTo, entersStructs, entersEnums, entersCxx, duplicateType, duplicateFunction, duplicate}
+use Rattle.rules.specs.Names.{_∋_}
+use Rattle.rules.specs.View.{Struct, Enum, CxxType, itemIs, isFunction}
+use Rattle.rules.specs.Collect.{duplicateType, duplicateFunction, duplicate}
 use Rattle.names.specs.Table.{wordsAt}
-use Rattle.types.specs.Named.{Item, Named, Known, ReadyNames, ofSelf, entersKeys}
+use Rattle.types.specs.Named.{Item, ReadyNames, ofSelf, entersKeys}
 use Rattle.types.proofs.Naming.{is-type}
 
 -- ## Types

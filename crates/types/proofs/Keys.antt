@@ -14,7 +14,7 @@ use lib.Seq.{getD-set-same, getD-set-other}
 use borrow.Author.Tests.{eq-eqb, ne-eqb, eqb-true, eqb-false}
 use Rattle.rules.specs.Base.{if_then_else_, some}
 use Rattle.rules.specs.Format.{Accepted}
-use Rattle.rules.specs.Names.{Words, bitOf, add, _∋_, nameSelf}
+use Rattle.rules.specs.Names.{Words, bitOf, add, _∋_}
 use Rattle.rules.specs.View.{items, isFunction, itemName, form, isFree, selfType}
 use Rattle.rules.specs.Collect.{sameFunction, duplicateFunction}
 use Rattle.laws.proofs.Counts.{Eq?, same, other, eq?}

@@ -1,20 +1,20 @@
 -- The names of one item more: what enters the sets and the tables of last items at its turn is what the rules say of it.
 -- Assumes nothing.
-use Prim.Native.Nat.{ℕ, zero, suc, _+_, _<_}
-use mathlib.Core.Path.{_≡_, refl, sym, ap, _∙_}
+use Prim.Native.Nat.{ℕ, _+_, _<_}
+use mathlib.Core.Path.{_≡_, refl, _∙_}
 use mathlib.Core.Bool.{Bool, true, false, not, _&&_, _||_}
 use mathlib.Core.List.{List}
 use native.Mathlib.Omega.{arith}
 use native.Mathlib.Numerals.{add-one}
 use lib.ListN.{length, set}
-use lib.Dec.{ltb, leb, eqb}
+use lib.Dec.{leb, eqb}
 use borrow.Author.Tests.{ltb-true, eq-eqb}
 use Rattle.rules.specs.Base.{if_then_else_}
 use Rattle.rules.specs.Names.{Words, add}
-use Rattle.rules.specs.View.{Struct, Enum, CxxType, RustType, TypeAlias, itemKind, itemIs, isType, itemName, typeTrusted}
+use Rattle.rules.specs.View.{Struct, Enum, CxxType, RustType, TypeAlias, itemIs, isType, itemName, typeTrusted}
 use Rattle.rules.specs.Collect.{namesTo, lastTo, entersStructs, entersEnums, entersCxx, entersRust, entersAliases, entersUntrusted}
 use Rattle.laws.proofs.Accepted.Sheet.{sheet-of}
-use Rattle.names.specs.Table.{wordsAt, Entered}
+use Rattle.names.specs.Table.{Entered}
 use Rattle.types.specs.Named.{EnteredIf, Item, Named, Lasts}
 
 -- ## A name is added, or not

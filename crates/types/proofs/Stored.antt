@@ -16,7 +16,6 @@ use borrow.Author.Tests.{eq-eqb, ne-eqb, eqb-true, eqb-false}
 use Rattle.rules.specs.Base.{over}
 use Rattle.rules.specs.Format.{pairAt}
 use Rattle.rules.specs.Names.{bitOf}
-use Rattle.laws.proofs.Counts.{free}
 use Rattle.laws.proofs.Lists.{over-length, over-get}
 use Rattle.laws.proofs.Tests.{both}
 use Rattle.types.specs.Scratch.{rowsOf, marked, Holds, Grown}

@@ -1,19 +1,18 @@
 -- The walk over rows: it stands still at none, goes on with one list after another, and at one row does nothing, or adds it and goes on with what it shows.
 -- Assumes nothing.
 use Prim.Native.Nat.{ℕ, zero, suc, _+_, _<_, _≤_}
-use mathlib.Core.Path.{_≡_, refl, sym, ap, _∙_}
+use mathlib.Core.Path.{_≡_, refl, sym, _∙_}
 use mathlib.Core.Bool.{true, false}
 use mathlib.Core.List.{List, [], _∷_, _++_, foldl, foldl-append}
 use native.Mathlib.Omega.{arith}
 use native.Mathlib.Numerals.{add-one}
 use lib.ListN.{length}
-use lib.Dec.{eqb}
 use borrow.Author.Tests.{eq-eqb, ne-eqb}
 use mathlib.Core.Logic.{inl, inr}
 use Rattle.rules.specs.Base.{if_then_else_, over}
 use Rattle.rules.specs.Format.{pairAt, offset, Accepted}
 use Rattle.rules.specs.View.{Fn, rows, kind, inner, fnArgs, fnArgCount, fnArg, shown, entry, entries, orNothing}
-use Rattle.laws.specs.Skip.{seen, skipVisit}
+use Rattle.laws.specs.Skip.{skipVisit}
 use Rattle.laws.proofs.Accepted.Sheet.{sheet-of}
 use Rattle.laws.proofs.Accepted.Steps.{RowOrNone}
 use Rattle.laws.proofs.Accepted.Rows.{RowOf}

@@ -1,37 +1,33 @@
 -- The whole of `collect`: the cleared scratch to begin with, the tables to begin with, and that what the parts leave is what the rules say of the sheet.
 -- Assumes nothing.
-use Prim.Native.Nat.{ℕ, zero, suc, _+_, _*_, _/_, _%_, _^_, _-_, _<_, _≤_}
+use Prim.Native.Nat.{ℕ, zero, suc, _+_, _*_, _/_, _-_, _<_, _≤_}
 use mathlib.Core.Path.{_≡_, refl, sym, ap, _∙_}
-use mathlib.Core.Bool.{Bool, true, false}
 use mathlib.Core.List.{List, [], _∷_, _++_}
 use native.Mathlib.Omega.{arith}
 use native.Mathlib.Nat.{zero-div}
 use native.Mathlib.Decide.{decLt}
 use lib.ListN.{length, getD, set, drop, replicate, length-drop}
 use lib.Seq.{getD-drop, ext-getD, getD-set-same, getD-set-other, set-out}
-use lib.Dec.{ltb, eqb}
 use borrow.Author.Tests.{lt-ltb}
 use Rattle.rules.specs.Base.{if_then_else_, over, anyOf}
 use Rattle.rules.specs.Format.{pairAt, Accepted}
-use Rattle.rules.specs.Names.{Words, empty, bitOf}
-use Rattle.rules.specs.View.{items, isType}
-use Rattle.rules.specs.Collect.{namesTo, lastTo, entersStructs, entersEnums, entersCxx, collectedTo, duplicates}
+use Rattle.rules.specs.Names.{Words, bitOf}
+use Rattle.rules.specs.View.{items}
+use Rattle.rules.specs.Collect.{namesTo, lastTo, entersStructs, entersEnums, collectedTo}
 use Rattle.rules.specs.Trivial.{reasonsOfItem, reasonsOfRow, reasonNames, tally, reasonsOf, requiredOf}
-use Rattle.rules.specs.Types.{Types, typesOf}
+use Rattle.rules.specs.Types.{typesOf}
 use Rattle.rules.specs.Answer.{cleared}
 use Rattle.laws.specs.Skip.{seen}
-use Rattle.laws.proofs.Counts.{free, free-le, Eq?, same, other, eq?}
+use Rattle.laws.proofs.Counts.{free-le, Eq?, same, other, eq?}
 use Rattle.laws.proofs.Lists.{zeros-get}
 use Rattle.laws.proofs.Collect.{all-few}
 use Rattle.laws.proofs.Bounds.Reasons.{names-few}
 use Rattle.names.specs.Table.{wordsAt}
 use Rattle.errors.specs.declared.Errors.{Errors}
-use Rattle.types.specs.declared.Types.{Types as Code}
-use Rattle.types.specs.declared.Collected.{Collected}
 use Rattle.types.specs.Scratch.{rowsOf, marked, Holds, Grown, Held}
-use Rattle.types.specs.Named.{Named, Lasts, ReadyTables, Declared}
+use Rattle.types.specs.Named.{Named, ReadyTables, Declared}
 use Rattle.types.specs.Reasons.{oneMore, countAll, Counted, ofItem, ofRow, Required}
-use Rattle.types.specs.Post.{IsTypes, Collectable, Collects}
+use Rattle.types.specs.Post.{Collectable, Collects}
 use Rattle.types.proofs.Zeroed.{cleared-length, cleared-at}
 use Rattle.types.proofs.Stored.{holds-length, holds-row}
 

@@ -8,7 +8,7 @@ use lib.ListN.{length, getD, set}
 use lib.Dec.{ltb, eqb}
 use Rattle.rules.specs.Base.{if_then_else_, over}
 use Rattle.rules.specs.Format.{pairAt}
-use Rattle.rules.specs.Names.{Words, empty}
+use Rattle.rules.specs.Names.{empty}
 use Rattle.rules.specs.View.{entry, items}
 use Rattle.rules.specs.Trivial.{insist, reasonsOfItem, reasonsOfRow, requiredOf}
 use Rattle.names.specs.Table.{wordsAt}

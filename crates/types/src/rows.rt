@@ -1,12 +1,10 @@
 // The rows that the items of a sheet show, each at first sight and before what it refers to: the visitor of types.rs, and visit.rs.
 ghost use mathlib.Core.Path.{_≡_};
-ghost use mathlib.Core.Bool.{false, _||_};
-ghost use mathlib.Core.List.{List, [], _∷_, _++_};
-ghost use Prim.Native.Nat.{ℕ, suc, _+_, _*_, _/_, _%_, _^_, _<_, _≤_};
+ghost use mathlib.Core.Bool.{false};
+ghost use mathlib.Core.List.{[], _∷_, _++_};
+ghost use Prim.Native.Nat.{suc, _+_, _*_, _/_, _%_, _^_, _<_, _≤_};
 ghost use lib.Bits.{bitOr};
-ghost use lib.Dec.{eqb};
 ghost use lib.ListN.{length, getD, set};
-ghost use Rattle.rules.specs.Base.{over};
 ghost use Rattle.rules.specs.View.{rows, orNothing, entries};
 ghost use Rattle.rules.specs.Collect.{shownBy};
 ghost use Rattle.rules.specs.Types.{typesOf};

@@ -1,7 +1,6 @@
 -- `types::reasons::insist_rows` meets its contract. The invariant: the reasons of the first k rows are counted.
 -- Assumes nothing.
 use Prim.Native.Nat.{_≤_, _-_, _*_}
-use mathlib.Core.Path.{_≡_}
 use native.Mathlib.Omega.{arith}
 use Rattle.rules.specs.Base.{over}
 use Rattle.rules.specs.Format.{pairAt}
