@@ -14,7 +14,8 @@ use borrow.Author.Tests.{eq-eqb, ne-eqb}
 use Rattle.rules.specs.Base.{if_then_else_, over}
 use Rattle.rules.specs.Format.{pairAt}
 use Rattle.rules.specs.Names.{Words, add, namesBelow, _∋_}
-use Rattle.rules.specs.View.{Ident, RustBox, RustVec, SliceRef, kind, is, rowName, inner, entry, itemKind, itemIs, isFunction, rest, fieldCount, field, returnPlace, hasReturn, return, argCount, arg}
+use Rattle.rules.specs.View.{Ident, RustBox, RustVec, SliceRef, kind, is, rowName, inner, entry, itemKind}
+use Rattle.rules.specs.View.{itemIs, isFunction, rest, fieldCount, field, returnPlace, hasReturn, return, argCount, arg}
 use Rattle.rules.specs.Trivial.{insist, reasonsOfItem, reasonsOfRow, requiredOf}
 use Rattle.laws.proofs.Tests.{never, both-are}
 use Rattle.names.specs.Table.{wordsAt}

@@ -13,7 +13,8 @@ use native.Mathlib.Nat.{le-refl}
 use mathlib.Core.Logic.{_⊎_, inl, inr}
 use Rattle.rules.specs.Base.{over}
 use Rattle.rules.specs.Format.{pairAt, offset, Accepted}
-use Rattle.rules.specs.View.{rows, past, entry, entries, orNothing, Struct, Enum, Impl, items, itemPlace, itemKind, itemIs, isFunction, rest, fields, fieldCount, field, enumRepr, receiverPlace, form, returnPlace, return, argCount, arg, args, implRow}
+use Rattle.rules.specs.View.{rows, past, entry, entries, orNothing, Struct, Enum, Impl, items, itemPlace, itemKind, itemIs, isFunction}
+use Rattle.rules.specs.View.{rest, fields, fieldCount, field, enumRepr, receiverPlace, form, returnPlace, return, argCount, arg, args, implRow}
 use Rattle.rules.specs.Collect.{shownBy}
 use Rattle.rules.specs.Types.{typesOf}
 use Rattle.laws.specs.Skip.{skipVisit, skipTo}

@@ -13,7 +13,8 @@ use Rattle.rules.specs.View.{kind, orNothing, fnReturn}
 use Rattle.laws.proofs.Accepted.Rows.{row-of}
 use Rattle.laws.proofs.Collect.Shown.{leaf, shown-leaf, shown-fn}
 use Rattle.types.specs.Scratch.{Walks}
-use Rattle.types.proofs.Walking.{few, held-next, still, wider, further, old, new, none, one, firstRows, to-none, to-more, to-end, not-none, inner-less, shown-one, args-less, args-are}
+use Rattle.types.proofs.Walking.{few, held-next, still, wider, further, old, new, none, one}
+use Rattle.types.proofs.Walking.{firstRows, to-none, to-more, to-end, not-none, inner-less, shown-one, args-less, args-are}
 use Prim.Native.Nat.{ℕ, _<_}
 use borrow.Fn.Kinds.{In}
 use borrow.Fn.PlainCycle.{Measures, is, falls, and}
