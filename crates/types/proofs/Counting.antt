@@ -1,20 +1,21 @@
 -- Reasons are counted one list after another; a list of reasons by the tests that the code makes; and where a sheet's reasons are few enough, the counts that
 -- stop are the rules' own.
 -- Assumes nothing.
-use Prim.Native.Nat.{ℕ, zero, suc, _+_, _*_, _/_, _<_, _≤_}
+use Prim.Native.Nat.{ℕ, _+_, _<_}
 use mathlib.Core.Path.{_≡_, refl, sym, ap, _∙_}
 use mathlib.Core.Bool.{Bool, true, false, not, _&&_, _||_}
 use mathlib.Core.List.{List, [], _∷_, _++_}
 use native.Mathlib.Omega.{arith}
 use native.Mathlib.Numerals.{add-one}
 use native.Mathlib.Decide.{decLt}
-use lib.ListN.{length, getD, set, replicate}
+use lib.ListN.{length, getD, set}
 use lib.Dec.{ltb, eqb}
-use borrow.Author.Tests.{lt-ltb, eq-eqb, ne-eqb}
+use borrow.Author.Tests.{eq-eqb, ne-eqb}
 use Rattle.rules.specs.Base.{if_then_else_, over}
 use Rattle.rules.specs.Format.{pairAt}
 use Rattle.rules.specs.Names.{Words, add, namesBelow, _∋_}
-use Rattle.rules.specs.View.{Ident, RustBox, RustVec, SliceRef, kind, is, rowName, inner, entry, Struct, items, itemKind, itemIs, isFunction, rest, fieldCount, field, returnPlace, hasReturn, return, argCount, arg}
+use Rattle.rules.specs.View.{Ident, RustBox, RustVec, SliceRef, kind, is, rowName, inner, entry, itemKind}
+use Rattle.rules.specs.View.{itemIs, isFunction, rest, fieldCount, field, returnPlace, hasReturn, return, argCount, arg}
 use Rattle.rules.specs.Trivial.{insist, reasonsOfItem, reasonsOfRow, requiredOf}
 use Rattle.laws.proofs.Tests.{never, both-are}
 use Rattle.names.specs.Table.{wordsAt}
@@ -56,7 +57,8 @@ module _ (s sets : List ℕ) (r : ℕ) where
   plain-not e h = rw (sym e ∙ h) count-none
 
   module _ {n : ℕ} {p structs enums cxx a b : Bool} (is-plain : p ≡ is s Ident r) (plain : p ≡ true) (named : n ≡ rowName s r)
-      (in-structs : structs ≡ (wordsAt sets 0 ∋ n)) (in-enums : enums ≡ (wordsAt sets 1 ∋ n)) (in-cxx : cxx ≡ (wordsAt sets 2 ∋ n)) (first : a ≡ (cxx && not structs))
+      (in-structs : structs ≡ (wordsAt sets 0 ∋ n)) (in-enums : enums ≡ (wordsAt sets 1 ∋ n)) (in-cxx : cxx ≡ (wordsAt sets 2 ∋ n))
+      (first : a ≡ (cxx && not structs))
       (second : b ≡ (a && not enums)) where
     plain-is : ofPlain s sets r ≡ (if b then n ∷ [] else [])
     unfolding insist
@@ -139,7 +141,8 @@ module _ {reasons before : List ℕ} where
   unfolding namesBelow
   required-none h = record { long = h .long; here = h .none; others = λ j _ _. refl }
 
-  pub required-more : {n : ℕ} {yes : Bool} {u v : List ℕ} → RequiredTo reasons before n u → yes ≡ ltb 0 (getD reasons n 0) → EnteredIf u 6 yes n v → RequiredTo reasons before (n + 1) v
+  pub required-more : {n : ℕ} {yes : Bool} {u v : List ℕ} → RequiredTo reasons before n u → yes ≡ ltb 0 (getD reasons n 0) → EnteredIf u 6 yes n v
+      → RequiredTo reasons before (n + 1) v
   unfolding namesBelow if_then_else_
   required-more {n} {yes} {u} {v} p e q =
       record { long = q .long; here = rw (add-one n) (next ∙ by (ltb 0 (getD reasons n 0))); others = λ j l o. q .others j l o ∙ p .others j l o }

@@ -1,17 +1,17 @@
 -- What the duplicate tests say by the tables as of an item is what the rules say of the items before it.
 -- Assumes nothing.
-use Prim.Native.Nat.{ℕ, _+_, _<_}
-use mathlib.Core.Path.{_≡_, refl, sym, ap, _∙_}
+use Prim.Native.Nat.{ℕ}
+use mathlib.Core.Path.{_≡_, refl, sym, _∙_}
 use mathlib.Core.Bool.{Bool, true, false, not, _&&_, _||_}
 use mathlib.Core.List.{List}
 use lib.Dec.{leb, eqb}
 use Rattle.rules.specs.declared.NameSet.{NameSet}
 use Rattle.rules.specs.Base.{if_then_else_}
-use Rattle.rules.specs.Names.{Words, _∋_}
-use Rattle.rules.specs.View.{Struct, Enum, CxxType, itemKind, itemIs, isType, isFunction, itemName}
-use Rattle.rules.specs.Collect.{namesTo, entersStructs, entersEnums, entersCxx, duplicateType, duplicateFunction, duplicate}
+use Rattle.rules.specs.Names.{_∋_}
+use Rattle.rules.specs.View.{Struct, Enum, CxxType, itemIs, isFunction}
+use Rattle.rules.specs.Collect.{duplicateType, duplicateFunction, duplicate}
 use Rattle.names.specs.Table.{wordsAt}
-use Rattle.types.specs.Named.{Item, Named, Known, ReadyNames, ofSelf, entersKeys}
+use Rattle.types.specs.Named.{Item, ReadyNames, ofSelf, entersKeys}
 use Rattle.types.proofs.Naming.{is-type}
 
 -- ## Types
@@ -43,7 +43,8 @@ module _ {s t : List ℕ} {i n : ℕ} {names : NameSet} (h : ReadyNames s i n t 
     unfolding if_then_else_
     type-shared e q = q ∙ sym (rw (old, e) at rule)
 
-    pub type-cxx : {extern r : Bool} → shared ≡ false → extern ≡ itemIs s CxxType i → extern ≡ true → r ≡ (cxx || (not structs && not enums)) → r ≡ duplicateType s i
+    pub type-cxx : {extern r : Bool} → shared ≡ false → extern ≡ itemIs s CxxType i → extern ≡ true → r ≡ (cxx || (not structs && not enums))
+        → r ≡ duplicateType s i
     unfolding if_then_else_
     type-cxx e c d q = q ∙ sym (rw (old, e, sym c ∙ d) at rule)
 

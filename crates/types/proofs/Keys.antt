@@ -14,7 +14,7 @@ use lib.Seq.{getD-set-same, getD-set-other}
 use borrow.Author.Tests.{eq-eqb, ne-eqb, eqb-true, eqb-false}
 use Rattle.rules.specs.Base.{if_then_else_, some}
 use Rattle.rules.specs.Format.{Accepted}
-use Rattle.rules.specs.Names.{Words, bitOf, add, _∋_, nameSelf}
+use Rattle.rules.specs.Names.{Words, bitOf, add, _∋_}
 use Rattle.rules.specs.View.{items, isFunction, itemName, form, isFree, selfType}
 use Rattle.rules.specs.Collect.{sameFunction, duplicateFunction}
 use Rattle.laws.proofs.Counts.{Eq?, same, other, eq?}
@@ -86,7 +86,8 @@ same-key true true {m} {n} l k f g h =
     (λ e. let z = eqb-true n m (both-are (eqb n m) true e .0) in eq-eqb (256 * 256 + m) (256 * 256 + n) (omega arith))
 same-key true false {m} {n} {p} {q} l k f g h =
     test-same (not (eqb q 23) && eqb (256 * 256 + m) (256 * q + n)) (eqb n m && false)
-    (λ e. absurd (let z = eqb-true (256 * 256 + m) (256 * q + n) (both-are (not (eqb q 23)) (eqb (256 * 256 + m) (256 * q + n)) e .1) in let r = g refl in omega arith))
+    (λ e. absurd (let z = eqb-true (256 * 256 + m) (256 * q + n) (both-are (not (eqb q 23)) (eqb (256 * 256 + m) (256 * q + n)) e .1) in let r = g refl in
+    omega arith))
     (λ e. never (both-are (eqb n m) false e .1))
 same-key false true {m} {n} {p} {q} l k f g h =
     test-same (eqb (256 * p + m) (256 * 256 + n)) (eqb n m && false)
@@ -147,14 +148,17 @@ module _ (s : List ℕ) where
     pair-same i j l k h o = both (isFunction s j)
         (λ e.
         rw e
-        (same-key (isFree s i) (isFree s j) (item-of s acc i l .as-function h .named) (item-of s acc j k .as-function e .named) (self-small i l h) (self-small j k e) o))
+        (same-key (isFree s i) (isFree s j) (item-of s acc i l .as-function h .named) (item-of s acc j k .as-function e .named) (self-small i l h)
+        (self-small j k e) o))
         (λ e. rw e refl)
 
-    pub function-known : (i : ℕ) {n : ℕ} {w : Words} → i < items s → isFunction s i ≡ true → ofSelf s i ≡ false → w ≡ keysTo s i → n ≡ keyOf s i → (w ∋ n) ≡ duplicateFunction s i
+    pub function-known : (i : ℕ) {n : ℕ} {w : Words} → i < items s → isFunction s i ≡ true → ofSelf s i ≡ false → w ≡ keysTo s i → n ≡ keyOf s i
+        → (w ∋ n) ≡ duplicateFunction s i
     unfolding duplicateFunction ofSelf if_then_else_
     function-known i l h o e q =
         rw (e, q, o)
-        (keys-have i (omega arith) (keyOf s i) ∙ some-same i (λ j. entersKeys s j && eqb (keyOf s i) (keyOf s j)) (sameFunction s i) (λ j m. pair-same i j l (omega arith) h o))
+        (keys-have i (omega arith) (keyOf s i) ∙ some-same i (λ j. entersKeys s j && eqb (keyOf s i) (keyOf s j)) (sameFunction s i)
+        (λ j m. pair-same i j l (omega arith) h o))
 
   pub function-self : (i : ℕ) → ofSelf s i ≡ true → false ≡ duplicateFunction s i
   unfolding duplicateFunction ofSelf if_then_else_

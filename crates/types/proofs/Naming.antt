@@ -1,20 +1,20 @@
 -- The names of one item more: what enters the sets and the tables of last items at its turn is what the rules say of it.
 -- Assumes nothing.
-use Prim.Native.Nat.{ℕ, zero, suc, _+_, _<_}
-use mathlib.Core.Path.{_≡_, refl, sym, ap, _∙_}
+use Prim.Native.Nat.{ℕ, _+_, _<_}
+use mathlib.Core.Path.{_≡_, refl, _∙_}
 use mathlib.Core.Bool.{Bool, true, false, not, _&&_, _||_}
 use mathlib.Core.List.{List}
 use native.Mathlib.Omega.{arith}
 use native.Mathlib.Numerals.{add-one}
 use lib.ListN.{length, set}
-use lib.Dec.{ltb, leb, eqb}
+use lib.Dec.{leb, eqb}
 use borrow.Author.Tests.{ltb-true, eq-eqb}
 use Rattle.rules.specs.Base.{if_then_else_}
 use Rattle.rules.specs.Names.{Words, add}
-use Rattle.rules.specs.View.{Struct, Enum, CxxType, RustType, TypeAlias, itemKind, itemIs, isType, itemName, typeTrusted}
+use Rattle.rules.specs.View.{Struct, Enum, CxxType, RustType, TypeAlias, itemIs, isType, itemName, typeTrusted}
 use Rattle.rules.specs.Collect.{namesTo, lastTo, entersStructs, entersEnums, entersCxx, entersRust, entersAliases, entersUntrusted}
 use Rattle.laws.proofs.Accepted.Sheet.{sheet-of}
-use Rattle.names.specs.Table.{wordsAt, Entered}
+use Rattle.names.specs.Table.{Entered}
 use Rattle.types.specs.Named.{EnteredIf, Item, Named, Lasts}
 
 -- ## A name is added, or not
@@ -31,23 +31,27 @@ entered-if {t} {u} k n e l h =
 -- ## What a set or a table is one item later
 
 module _ (s : List ℕ) (p : ℕ → Bool) (i : ℕ) where
-  pub names-next : {w w′ : Words} {yes : Bool} {n : ℕ} → w ≡ namesTo s p i → yes ≡ p i → n ≡ itemName s i → w′ ≡ (if yes then add w n else w) → w′ ≡ namesTo s p (i + 1)
+  pub names-next : {w w′ : Words} {yes : Bool} {n : ℕ} → w ≡ namesTo s p i → yes ≡ p i → n ≡ itemName s i → w′ ≡ (if yes then add w n else w)
+      → w′ ≡ namesTo s p (i + 1)
   unfolding namesTo if_then_else_
   names-next {w} {w′} {yes} {n} e q a h =
       let g : w′ ≡ (if p i then add (namesTo s p i) (itemName s i) else namesTo s p i) = rw (e, q, a) at h in
       rw (add-one i) (g ∙ by (p i))
     where
-      by : (b : Bool) → (if b then add (namesTo s p i) (itemName s i) else namesTo s p i) ≡ elim b as (λ _. Words) [ true ↦ add (namesTo s p i) (itemName s i) | false ↦ namesTo s p i ]
+      by : (b : Bool) → (if b then add (namesTo s p i) (itemName s i) else namesTo s p i) ≡ elim b as (λ _. Words)
+          [ true ↦ add (namesTo s p i) (itemName s i) | false ↦ namesTo s p i ]
       by true = refl
       by false = refl
 
-  pub last-next : {t t′ : List ℕ} {yes : Bool} {n : ℕ} → t ≡ lastTo s p i → yes ≡ p i → n ≡ itemName s i → t′ ≡ (if yes then set t n i else t) → t′ ≡ lastTo s p (i + 1)
+  pub last-next : {t t′ : List ℕ} {yes : Bool} {n : ℕ} → t ≡ lastTo s p i → yes ≡ p i → n ≡ itemName s i → t′ ≡ (if yes then set t n i else t)
+      → t′ ≡ lastTo s p (i + 1)
   unfolding lastTo if_then_else_
   last-next {t} {t′} {yes} {n} e q a h =
       let g : t′ ≡ (if p i then set (lastTo s p i) (itemName s i) i else lastTo s p i) = rw (e, q, a) at h in
       rw (add-one i) (g ∙ by (p i))
     where
-      by : (b : Bool) → (if b then set (lastTo s p i) (itemName s i) i else lastTo s p i) ≡ elim b as (λ _. List ℕ) [ true ↦ set (lastTo s p i) (itemName s i) i | false ↦ lastTo s p i ]
+      by : (b : Bool) → (if b then set (lastTo s p i) (itemName s i) i else lastTo s p i) ≡ elim b as (λ _. List ℕ)
+          [ true ↦ set (lastTo s p i) (itemName s i) i | false ↦ lastTo s p i ]
       by true = refl
       by false = refl
 
@@ -112,11 +116,15 @@ module _ {s : List ℕ} {i k n : ℕ} (h : Item s i k n) where
             ∙ names-next s (entersRust s) i (e₃ .others 3 refl refl ∙ e₂ .others 3 refl refl ∙ e₁ .others 3 refl refl ∙ a .rust) is-rust (h .name) (e₄ .here);
         aliases =
             e₆ .others 4 refl refl
-            ∙ names-next s (entersAliases s) i (e₄ .others 4 refl refl ∙ e₃ .others 4 refl refl ∙ e₂ .others 4 refl refl ∙ e₁ .others 4 refl refl ∙ a .aliases) is-alias (h .name) (e₅ .here);
+            ∙ names-next s (entersAliases s) i
+            (e₄ .others 4 refl refl ∙ e₃ .others 4 refl refl ∙ e₂ .others 4 refl refl ∙ e₁ .others 4 refl refl ∙ a .aliases) is-alias (h .name)
+            (e₅ .here);
         untrusted =
-            names-next s (entersUntrusted s) i (e₅ .others 5 refl refl ∙ e₄ .others 5 refl refl ∙ e₃ .others 5 refl refl ∙ e₂ .others 5 refl refl ∙ e₁ .others 5 refl refl ∙ a .untrusted)
+            names-next s (entersUntrusted s) i
+            (e₅ .others 5 refl refl ∙ e₄ .others 5 refl refl ∙ e₃ .others 5 refl refl ∙ e₂ .others 5 refl refl ∙ e₁ .others 5 refl refl ∙ a .untrusted)
             (is-untrusted qₜ q₆) (h .name) (e₆ .here);
-        trivial = e₆ .others 6 refl refl ∙ e₅ .others 6 refl refl ∙ e₄ .others 6 refl refl ∙ e₃ .others 6 refl refl ∙ e₂ .others 6 refl refl ∙ e₁ .others 6 refl refl ∙ a .trivial;
+        trivial = e₆ .others 6 refl refl ∙ e₅ .others 6 refl refl ∙ e₄ .others 6 refl refl ∙ e₃ .others 6 refl refl ∙ e₂ .others 6 refl refl
+            ∙ e₁ .others 6 refl refl ∙ a .trivial;
       }
 
   pub lasts-next : {a b c a′ b′ c′ : List ℕ} {trusted untrusted type : Bool} → Lasts s i a b c

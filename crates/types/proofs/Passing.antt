@@ -1,7 +1,7 @@
 -- The pass over the items: what holds before item i, at the start and at the end.
 -- Assumes nothing.
-use Prim.Native.Nat.{ℕ, _+_, _<_, _≤_}
-use mathlib.Core.Path.{_≡_, refl, sym, ap, _∙_, subst}
+use Prim.Native.Nat.{ℕ, _+_, _<_}
+use mathlib.Core.Path.{_≡_, refl, _∙_, subst}
 use mathlib.Core.Bool.{Bool}
 use mathlib.Core.List.{List}
 use native.Mathlib.Omega.{arith}
@@ -40,7 +40,8 @@ module _ {s t a b c out : List ℕ} {cx : Errors} where
   pass-start h e q = record { sets = h .sets; last = h .last; known = e; keys = q; reported = start out cx (told s); same = refl }
 
 module _ {s out₀ : List ℕ} {cx₀ : Errors} {t a b c out : List ℕ} {cx : Errors} {names : NameSet} {w : List ℕ} where
-  pub pass-turn : {i k n : ℕ} {t′ a′ b′ c′ out′ : List ℕ} {cx′ : Errors} {names′ : NameSet} {w′ : Words} {again : Bool} → Item s i k n → Passed s out₀ cx₀ i t a b c out cx names w
+  pub pass-turn : {i k n : ℕ} {t′ a′ b′ c′ out′ : List ℕ} {cx′ : Errors} {names′ : NameSet} {w′ : Words} {again : Bool} → Item s i k n
+      → Passed s out₀ cx₀ i t a b c out cx names w
       → again ≡ duplicate s i
       → Reported out cx (when again (say 1 (I i))) cx′ out′
       → length out′ ≡ length out

@@ -1,28 +1,29 @@
 -- What items show: where their rows stand, that these are rows of the sheet, and the walk over them by kinds.
 -- Assumes nothing.
-use Prim.Native.Nat.{ℕ, zero, suc, _+_, _*_, _<_, _≤_}
+use Prim.Native.Nat.{ℕ, zero, suc, _+_, _*_, _<_}
 use mathlib.Core.Path.{_≡_, refl, sym, ap, _∙_}
 use mathlib.Core.Bool.{Bool, true, false, _||_}
 use mathlib.Core.List.{List, [], _∷_, _++_, foldl, foldl-append}
 use native.Mathlib.Omega.{arith}
 use native.Mathlib.Numerals.{add-one}
-use lib.ListN.{length, getD}
+use lib.ListN.{getD}
 use lib.Dec.{eqb}
 use borrow.Author.Tests.{ne-eqb, eqb-true}
 use native.Mathlib.Nat.{le-refl}
 use mathlib.Core.Logic.{_⊎_, inl, inr}
 use Rattle.rules.specs.Base.{over}
 use Rattle.rules.specs.Format.{pairAt, offset, Accepted}
-use Rattle.rules.specs.View.{rows, past, entry, entries, orNothing, Struct, Enum, Impl, items, itemPlace, itemKind, itemIs, isFunction, rest, fields, fieldCount, field, enumRepr, receiverPlace, form, returnPlace, return, argCount, arg, args, implRow}
+use Rattle.rules.specs.View.{rows, past, entry, entries, orNothing, Struct, Enum, Impl, items, itemPlace, itemKind, itemIs, isFunction}
+use Rattle.rules.specs.View.{rest, fields, fieldCount, field, enumRepr, receiverPlace, form, returnPlace, return, argCount, arg, args, implRow}
 use Rattle.rules.specs.Collect.{shownBy}
-use Rattle.rules.specs.Types.{Types, typesOf}
+use Rattle.rules.specs.Types.{typesOf}
 use Rattle.laws.specs.Skip.{skipVisit, skipTo}
 use Rattle.laws.proofs.Tests.{or-is}
 use Rattle.laws.proofs.Collect.{all-skip}
 use Rattle.laws.proofs.Accepted.Steps.{RowOrNone}
 use Rattle.laws.proofs.Accepted.Items.{item-of}
 use Rattle.laws.proofs.Collect.Shown.{shownBy-struct, shownBy-enum, shownBy-function, shownBy-impl, shownBy-other}
-use Rattle.types.specs.Scratch.{rowsOf, Holds, Grown, Held, Walks}
+use Rattle.types.specs.Scratch.{rowsOf, Grown, Held, Walks}
 use Rattle.types.proofs.Walking.{still, wider, further}
 
 -- ## Places

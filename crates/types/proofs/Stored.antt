@@ -16,7 +16,6 @@ use borrow.Author.Tests.{eq-eqb, ne-eqb, eqb-true, eqb-false}
 use Rattle.rules.specs.Base.{over}
 use Rattle.rules.specs.Format.{pairAt}
 use Rattle.rules.specs.Names.{bitOf}
-use Rattle.laws.proofs.Counts.{free}
 use Rattle.laws.proofs.Lists.{over-length, over-get}
 use Rattle.laws.proofs.Tests.{both}
 use Rattle.types.specs.Scratch.{rowsOf, marked, Holds, Grown}
@@ -110,7 +109,8 @@ module _ (b : List ℕ) (n r : ℕ) (l : 2304 ≤ length b) (n< : n < 1024) (r< 
       let e = noted d r in
       let all = rowsOf b n in
       let room = room-less all r 1024 r< (sym (h .marks r r<) ∙ f) in
-      let low : (i : ℕ) → i < 2 * n → getD e i 0 ≡ getD b i 0 = λ i g. noted-other d i (λ t. omega arith) ∙ stored-other i (λ t. omega arith) (λ t. omega arith) in
+      let low : (i : ℕ) → i < 2 * n → getD e i 0 ≡ getD b i 0 = λ i g. noted-other d i (λ t. omega arith)
+      ∙ stored-other i (λ t. omega arith) (λ t. omega arith) in
       let lo : getD e (2 * n) 0 ≡ r % 256 = noted-other d (2 * n) (λ t. omega arith) ∙ stored-low in
       let hi : getD e (2 * n + 1) 0 ≡ r / 256 = noted-other d (2 * n + 1) (λ t. omega arith) ∙ stored-high in
       let is : getD e (2 * n) 0 + 256 * getD e (2 * n + 1) 0 ≡ r = rw (lo, hi) (omega arith) in

@@ -1,19 +1,18 @@
 -- The walk over rows: it stands still at none, goes on with one list after another, and at one row does nothing, or adds it and goes on with what it shows.
 -- Assumes nothing.
 use Prim.Native.Nat.{ℕ, zero, suc, _+_, _<_, _≤_}
-use mathlib.Core.Path.{_≡_, refl, sym, ap, _∙_}
+use mathlib.Core.Path.{_≡_, refl, sym, _∙_}
 use mathlib.Core.Bool.{true, false}
 use mathlib.Core.List.{List, [], _∷_, _++_, foldl, foldl-append}
 use native.Mathlib.Omega.{arith}
 use native.Mathlib.Numerals.{add-one}
 use lib.ListN.{length}
-use lib.Dec.{eqb}
 use borrow.Author.Tests.{eq-eqb, ne-eqb}
 use mathlib.Core.Logic.{inl, inr}
 use Rattle.rules.specs.Base.{if_then_else_, over}
 use Rattle.rules.specs.Format.{pairAt, offset, Accepted}
 use Rattle.rules.specs.View.{Fn, rows, kind, inner, fnArgs, fnArgCount, fnArg, shown, entry, entries, orNothing}
-use Rattle.laws.specs.Skip.{seen, skipVisit}
+use Rattle.laws.specs.Skip.{skipVisit}
 use Rattle.laws.proofs.Accepted.Sheet.{sheet-of}
 use Rattle.laws.proofs.Accepted.Steps.{RowOrNone}
 use Rattle.laws.proofs.Accepted.Rows.{RowOf}
@@ -56,7 +55,8 @@ module _ {s b : List ℕ} {n : ℕ} where
       by zero l = absurd (omega arith)
       by (suc f) l = rw (sym (h .walk .held .marks row (few h)) ∙ e, skipVisit) (record { held = h .walk .held; kept = λ i _. refl })
 
-  pub new : {d e l : List ℕ} {row m r : ℕ} → Ready s b n row → marked b row ≡ false → Grown b d m (rowsOf b n ++ row ∷ []) → shown s row ≡ l → Walks s d e m row l r
+  pub new : {d e l : List ℕ} {row m r : ℕ} → Ready s b n row → marked b row ≡ false → Grown b d m (rowsOf b n ++ row ∷ []) → shown s row ≡ l
+      → Walks s d e m row l r
       → Walks s b e n (suc row) (row ∷ []) r
   unfolding skipVisit
   new {d} {e} {l} {row} {m} {r} h o g q w = record { grown = by }
@@ -86,7 +86,8 @@ module _ {s b : List ℕ} {n : ℕ} (at : ℕ) where
   unfolding over
   to-none h = still h
 
-  pub to-more : {d e : List ℕ} {bound x m r : ℕ} (j : ℕ) → Walks s b d n bound (firstRows s at j) m → x ≡ entry s at j → x < bound → Walks s d e m (suc x) (x ∷ []) r
+  pub to-more : {d e : List ℕ} {bound x m r : ℕ} (j : ℕ) → Walks s b d n bound (firstRows s at j) m → x ≡ entry s at j → x < bound
+      → Walks s d e m (suc x) (x ∷ []) r
       → Walks s b e n bound (firstRows s at (j + 1)) r
   unfolding over
   to-more j w q l v = rw (add-one j, ← q) (further w (wider v (omega arith)))

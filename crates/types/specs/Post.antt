@@ -6,7 +6,7 @@ use mathlib.Core.List.{List}
 use lib.ListN.{length, getD, drop}
 use Rattle.rules.specs.Format.{pairAt, Accepted}
 use Rattle.rules.specs.Collect.{duplicates}
-use Rattle.rules.specs.Types.{Types, typesOf}
+use Rattle.rules.specs.Types.{typesOf}
 use Rattle.rules.specs.Answer.{cleared}
 use Rattle.names.specs.Table.{wordsAt}
 use Rattle.errors.specs.declared.Errors.{Errors}

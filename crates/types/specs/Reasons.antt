@@ -1,13 +1,15 @@
 -- Reasons counted as the code counts them, and what the code does with the table of counts.
 -- Assumes nothing: these are definitions.
-use Prim.Native.Nat.{ℕ, zero, suc, _+_, _<_}
+use Prim.Native.Nat.{ℕ, _+_, _*_}
 use mathlib.Core.Path.{_≡_}
-use mathlib.Core.Bool.{true, false}
+use mathlib.Core.Bool.{true, false, not}
 use mathlib.Core.List.{List, [], _∷_}
 use lib.ListN.{length, getD, set}
 use lib.Dec.{ltb, eqb}
-use Rattle.rules.specs.Base.{if_then_else_}
-use Rattle.rules.specs.Names.{Words, empty}
+use Rattle.rules.specs.Base.{if_then_else_, over}
+use Rattle.rules.specs.Format.{pairAt}
+use Rattle.rules.specs.Names.{empty}
+use Rattle.rules.specs.View.{entry, items}
 use Rattle.rules.specs.Trivial.{insist, reasonsOfItem, reasonsOfRow, requiredOf}
 use Rattle.names.specs.Table.{wordsAt}
 
@@ -32,11 +34,26 @@ module _ (s sets : List ℕ) where
   abbrev pub ofPlain : (r : ℕ) → List ℕ
   ofPlain r = insist s (wordsAt sets 0) (wordsAt sets 1) (wordsAt sets 2) r
 
+  -- of the rows of the list at a place
+  abbrev pub ofList : (at : ℕ) → List ℕ
+  ofList at = over (pairAt s at) (λ j. ofPlain (entry s at j))
+
+  -- of a return row, or of none
+  abbrev pub ofReturn : (r : ℕ) → List ℕ
+  ofReturn r = if not (eqb r 65535) then ofPlain r else []
+
   abbrev pub ofItem : (i : ℕ) → List ℕ
   ofItem i = reasonsOfItem s (wordsAt sets 0) (wordsAt sets 1) (wordsAt sets 2) i
 
   abbrev pub ofRow : (r : ℕ) → List ℕ
   ofRow r = reasonsOfRow s (wordsAt sets 0) (wordsAt sets 1) (wordsAt sets 2) r
+
+  abbrev pub ofItems : List ℕ
+  ofItems = over (items s) ofItem
+
+  -- of the n rows that a scratch holds
+  abbrev pub ofRows : (scratch : List ℕ) (n : ℕ) → List ℕ
+  ofRows scratch n = over n (λ k. ofRow (pairAt scratch (2 * k)))
 
 -- the set of required-trivial names is empty, and then that of the names with a reason; the others stay
 pub record ReadyRequired (before : List ℕ) : Type 0 where

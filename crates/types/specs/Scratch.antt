@@ -3,13 +3,13 @@
 use Prim.Native.Nat.{ℕ, _+_, _*_, _/_, _%_, _≤_, _<_}
 use mathlib.Core.Path.{_≡_}
 use mathlib.Core.Bool.{Bool, true}
-use mathlib.Core.List.{List, [], _∷_, foldl}
+use mathlib.Core.List.{List, [], _∷_, _++_, foldl}
 use lib.ListN.{length, getD}
 use lib.Dec.{eqb}
 use Rattle.rules.specs.Base.{over}
 use Rattle.rules.specs.Format.{pairAt, Accepted}
 use Rattle.rules.specs.Names.{bitOf}
-use Rattle.rules.specs.View.{Fn, rows, kind, entry, items, isFunction}
+use Rattle.rules.specs.View.{Fn, rows, kind, fnReturn, fnArgs, orNothing, entry, items, isFunction, args, return}
 use Rattle.laws.specs.Skip.{seen, skipVisit}
 use Rattle.laws.proofs.Counts.{free}
 use Rattle.laws.proofs.Accepted.Steps.{RowOrNone}
@@ -37,6 +37,13 @@ pub record Grown (b b′ : List ℕ) (n : ℕ) (all : List ℕ) : Type 0 where
   pub kept : (i : ℕ) → 2176 ≤ i → getD b′ i 0 ≡ getD b i 0
 
 -- ## The walk
+
+-- what a signature shows: its return before its arguments; and a function: its arguments before its return
+abbrev pub ofSignature : (s : List ℕ) (row : ℕ) → List ℕ
+ofSignature s row = orNothing (fnReturn s row) ++ fnArgs s row
+
+abbrev pub ofFunction : (s : List ℕ) (i : ℕ) → List ℕ
+ofFunction s i = args s i ++ orNothing (return s i)
 
 -- what a walk needs: an accepted sheet, and a scratch that holds what was collected so far
 pub record Held (s b : List ℕ) (n : ℕ) : Type 0 where

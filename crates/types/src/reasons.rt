@@ -1,18 +1,16 @@
 // How many reasons there are for a C++ name to be trivial: `required_trivial_reasons` of trivial.rs.
 ghost use mathlib.Core.Path.{_≡_};
-ghost use mathlib.Core.Bool.{not, _||_};
-ghost use mathlib.Core.List.{List, [], _++_};
-ghost use Prim.Native.Nat.{ℕ, _*_};
-ghost use lib.Dec.{eqb};
-ghost use Rattle.rules.specs.Base.{if_then_else_, over};
-ghost use Rattle.rules.specs.Format.{pairAt};
-ghost use Rattle.rules.specs.View.{entry, items};
+ghost use mathlib.Core.List.{_++_};
 ghost use Rattle.types.specs.Reasons.{
   oneMore,
   Counted,
   ofPlain,
+  ofList,
+  ofReturn,
   ofItem,
   ofRow,
+  ofItems,
+  ofRows,
   ReadyRequired,
   Required,
 };
@@ -49,7 +47,7 @@ fn insist(s: &[u8], sets: &[u64; 28], reasons: &mut [u16; 256], r: u16)
 
 // The reasons of the rows of the list at a place.
 fn insist_list(s: &[u8], sets: &[u64; 28], reasons: &mut [u16; 256], at: u32)
-    ensures { λ _. ⌜ Counted (now (reasons .entry)) (over (pairAt (now (s .entry)) at) (λ j. ofPlain (now (s .entry)) (now (sets .entry)) (entry (now (s .entry)) at j))) (now (reasons .exit)) ⌝ }
+    ensures { λ _. ⌜ Counted (now (reasons .entry)) (ofList (now (s .entry)) (now (sets .entry)) at) (now (reasons .exit)) ⌝ }
 {
     let count = sheet::pair_at(s, at as usize);
     let mut j = 0;
@@ -61,7 +59,7 @@ fn insist_list(s: &[u8], sets: &[u64; 28], reasons: &mut [u16; 256], at: u32)
 
 // The reason of a return row, if there is one.
 fn insist_return(s: &[u8], sets: &[u64; 28], reasons: &mut [u16; 256], row: u16)
-    ensures { λ _. ⌜ Counted (now (reasons .entry)) (if not (eqb row 65535) then ofPlain (now (s .entry)) (now (sets .entry)) row else []) (now (reasons .exit)) ⌝ }
+    ensures { λ _. ⌜ Counted (now (reasons .entry)) (ofReturn (now (s .entry)) (now (sets .entry)) row) (now (reasons .exit)) ⌝ }
 {
     if row == 65535 {
         return;
@@ -98,7 +96,7 @@ fn insist_row(s: &[u8], sets: &[u64; 28], reasons: &mut [u16; 256], r: u16)
 
 // The reasons of all items.
 fn insist_items(s: &[u8], sets: &[u64; 28], reasons: &mut [u16; 256])
-    ensures { λ _. ⌜ Counted (now (reasons .entry)) (over (items (now (s .entry))) (ofItem (now (s .entry)) (now (sets .entry)))) (now (reasons .exit)) ⌝ }
+    ensures { λ _. ⌜ Counted (now (reasons .entry)) (ofItems (now (s .entry)) (now (sets .entry))) (now (reasons .exit)) ⌝ }
 {
     let count = items::items(s);
     let mut i = 0;
@@ -110,7 +108,7 @@ fn insist_items(s: &[u8], sets: &[u64; 28], reasons: &mut [u16; 256])
 
 // The reasons of the n rows that the scratch holds.
 fn insist_rows(s: &[u8], sets: &[u64; 28], reasons: &mut [u16; 256], scratch: &[u8], n: usize)
-    ensures { λ _. ⌜ Counted (now (reasons .entry)) (over n (λ k. ofRow (now (s .entry)) (now (sets .entry)) (pairAt (now (scratch .entry)) (2 * k)))) (now (reasons .exit)) ⌝ }
+    ensures { λ _. ⌜ Counted (now (reasons .entry)) (ofRows (now (s .entry)) (now (sets .entry)) (now (scratch .entry)) n) (now (reasons .exit)) ⌝ }
 {
     let mut k = 0;
     while k < n {
@@ -127,7 +125,7 @@ pub fn required_trivial_reasons(
     scratch: &[u8],
     n: usize,
 )
-    ensures { λ _. ⌜ Counted (now (reasons .entry)) (over (items (now (s .entry))) (ofItem (now (s .entry)) (now (sets .entry))) ++ over n (λ k. ofRow (now (s .entry)) (now (sets .entry)) (pairAt (now (scratch .entry)) (2 * k)))) (now (reasons .exit)) ⌝ }
+    ensures { λ _. ⌜ Counted (now (reasons .entry)) (ofItems (now (s .entry)) (now (sets .entry)) ++ ofRows (now (s .entry)) (now (sets .entry)) (now (scratch .entry)) n) (now (reasons .exit)) ⌝ }
 {
     insist_items(s, sets, reasons);
     insist_rows(s, sets, reasons, scratch, n);

@@ -1,13 +1,11 @@
 // The rows that the items of a sheet show, each at first sight and before what it refers to: the visitor of types.rs, and visit.rs.
 ghost use mathlib.Core.Path.{_≡_};
-ghost use mathlib.Core.Bool.{false, _||_};
-ghost use mathlib.Core.List.{List, [], _∷_, _++_};
-ghost use Prim.Native.Nat.{ℕ, suc, _+_, _*_, _/_, _%_, _^_, _<_, _≤_};
+ghost use mathlib.Core.Bool.{false};
+ghost use mathlib.Core.List.{[], _∷_, _++_};
+ghost use Prim.Native.Nat.{suc, _+_, _*_, _/_, _%_, _^_, _<_, _≤_};
 ghost use lib.Bits.{bitOr};
-ghost use lib.Dec.{eqb};
 ghost use lib.ListN.{length, getD, set};
-ghost use Rattle.rules.specs.Base.{over};
-ghost use Rattle.rules.specs.View.{rows, orNothing, fnReturn, fnArgs, entries, args, return};
+ghost use Rattle.rules.specs.View.{rows, orNothing, entries};
 ghost use Rattle.rules.specs.Collect.{shownBy};
 ghost use Rattle.rules.specs.Types.{typesOf};
 ghost use Rattle.laws.proofs.Collect.Shown.{leaf};
@@ -16,6 +14,8 @@ ghost use Rattle.types.specs.Scratch.{
   marked,
   Holds,
   Grown,
+  ofSignature,
+  ofFunction,
   Held,
   Ready,
   ReadyFn,
@@ -100,7 +100,7 @@ fn visit_type(s: &[u8], scratch: &mut [u8], n: usize, row: u16) -> usize
 // Collects what an Fn row refers to: its return before its arguments.
 fn visit_signature(s: &[u8], scratch: &mut [u8], n: usize, row: u16) -> usize
     requires { ⌜ ReadyFn (now s) (now scratch) n row ⌝ }
-    ensures { λ m. ⌜ Walks (now (s .entry)) (now (scratch .entry)) (now (scratch .exit)) n row (orNothing (fnReturn (now (s .entry)) row) ++ fnArgs (now (s .entry)) row) m ⌝ }
+    ensures { λ m. ⌜ Walks (now (s .entry)) (now (scratch .entry)) (now (scratch .exit)) n row (ofSignature (now (s .entry)) row) m ⌝ }
 {
     let mut m = n;
     let result = sheet::rows::fn_return(s, row);
@@ -148,7 +148,7 @@ fn visit_return(s: &[u8], scratch: &mut [u8], n: usize, row: u16) -> usize
 // Collects what a function shows: its arguments before its return.
 fn visit_function(s: &[u8], scratch: &mut [u8], n: usize, i: u16) -> usize
     requires { ⌜ ReadyFunction (now s) (now scratch) n i ⌝ }
-    ensures { λ m. ⌜ Walks (now (s .entry)) (now (scratch .entry)) (now (scratch .exit)) n (rows (now (s .entry))) (args (now (s .entry)) i ++ orNothing (return (now (s .entry)) i)) m ⌝ }
+    ensures { λ m. ⌜ Walks (now (s .entry)) (now (scratch .entry)) (now (scratch .exit)) n (rows (now (s .entry))) (ofFunction (now (s .entry)) i) m ⌝ }
 {
     let at = functions::return_place(s, i);
     let m = visit_list(s, scratch, n, at + 2);

@@ -108,7 +108,8 @@ pub fn collect_names(
     out: &mut [u64],
 ) -> Errors
     requires { ⌜ ReadyTables (now s) (now sets) (now «last_struct») (now «last_untrusted») (now «last_type») ⌝ }
-    ensures { λ r. ⌜ Declared (now (s .entry)) (now (sets .exit)) (now («last_struct» .exit)) (now («last_untrusted» .exit)) (now («last_type» .exit)) (now (out .entry)) cx (now (out .exit)) r ⌝ }
+    ensures { λ r. ⌜ Declared (now (s .entry)) (now (sets .exit)) (now («last_struct» .exit)) (now («last_untrusted» .exit))
+        (now («last_type» .exit)) (now (out .entry)) cx (now (out .exit)) r ⌝ }
 {
     let count = items::items(s);
     let mut cx = cx;

@@ -10,17 +10,23 @@ is-type-requires : tie.Need-is-type-requires
 is-type-requires c κs = search needs
 
 duplicate-type-requires : tie.Need-duplicate-type-requires
-duplicate-type-requires c κs = record { name = (c .before .before .before .pre .item .name); sets = (c .before .before .before .pre .sets); known = (c .before .before .before .pre .known) }
+duplicate-type-requires c κs =
+    let c₃ = c .before .before .before in
+    record { name = c₃ .pre .item .name; sets = c₃ .pre .sets; known = c₃ .pre .known }
 
 returns : tie.Need-returns
-returns c = of-type (c .before .before .before .before .pre .item) (c .before .before .is-type .ensures) (c .before .if1 .taken) (c .duplicate-type .ensures)
+returns c =
+    let c₁ = c .before in
+    let c₂ = c₁ .before in
+    let c₄ = c₂ .before .before in
+    of-type (c₄ .pre .item) (c₂ .is-type .ensures) (c₁ .if1 .taken) (c .duplicate-type .ensures)
 
 is-function-requires : tie.Need-is-function-requires
 is-function-requires c κs = search needs
 
 duplicate-function-requires : tie.Need-duplicate-function-requires
 duplicate-function-requires c κs =
-    let p = (c .before .before .before .before .before .pre) in
+    let p = c .before .before .before .before .before .pre in
     record {
       accepted = p .item .accepted;
       below = p .item .below;
@@ -30,10 +36,21 @@ duplicate-function-requires c κs =
     }
 
 returns-2 : tie.Need-returns-2
-returns-2 c = of-function (c .before .before .before .before .before .before .pre .item) (c .before .before .before .before .is-type .ensures) (c .before .before .before .if1 .left) (c .before .before .is-function .ensures) (c .before .if2 .taken) (c .duplicate-function .ensures)
+returns-2 c =
+    let c₁ = c .before in
+    let c₂ = c₁ .before in
+    let c₃ = c₂ .before in
+    let c₄ = c₃ .before in
+    let c₆ = c₄ .before .before in
+    of-function (c₆ .pre .item) (c₄ .is-type .ensures) (c₃ .if1 .left) (c₂ .is-function .ensures) (c₁ .if2 .taken) (c .duplicate-function .ensures)
 
 returns-3 : tie.Need-returns-3
-returns-3 c = of-other (c .before .before .before .before .before .pre .item) (c .before .before .before .is-type .ensures) (c .before .before .if1 .left) (c .before .is-function .ensures) (c .if2 .left)
+returns-3 c =
+    let c₁ = c .before in
+    let c₂ = c₁ .before in
+    let c₃ = c₂ .before in
+    let c₅ = c₃ .before .before in
+    of-other (c₅ .pre .item) (c₃ .is-type .ensures) (c₂ .if1 .left) (c₁ .is-function .ensures) (c .if2 .left)
 
 pub duplicate-spec : {M : Type 1} → statement M
 duplicate-spec =

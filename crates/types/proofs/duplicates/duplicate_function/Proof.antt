@@ -17,13 +17,18 @@ key-requires c κs = search needs
 
 is-known-requires : tie.Need-is-known-requires
 is-known-requires c κs =
-    let p = (c .before .before .before .before .pre) in
+    let p = c .before .before .before .before .pre in
     rw ((c .key .ensures) (p .name)) (key-small _ (p .accepted) _ (p .below) (p .is-function))
 
 returns-2 : tie.Need-returns-2
 returns-2 c =
-    let p = (c .before .before .before .before .before .pre) in
-    (c .is-known .ensures) ∙ function-known _ (p .accepted) _ (p .below) (p .is-function) (sym (c .before .before .before .of-self .ensures) ∙ (c .before .before .if1 .left)) (p .keys) ((c .before .key .ensures) (p .name))
+    let c₁ = c .before in
+    let c₂ = c₁ .before in
+    let c₃ = c₂ .before in
+    let c₅ = c₃ .before .before in
+    let p = c₅ .pre in
+    (c .is-known .ensures) ∙ function-known _ (p .accepted) _ (p .below) (p .is-function) (sym (c₃ .of-self .ensures) ∙ (c₂ .if1 .left)) (p .keys)
+    ((c₁ .key .ensures) (p .name))
 
 pub duplicate-function-spec : {M : Type 1} → statement M
 duplicate-function-spec =

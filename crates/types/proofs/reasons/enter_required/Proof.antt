@@ -35,10 +35,13 @@ loop-less : tie.Need-loop-less Inv-loop μ-loop
 loop-less c = omega (arith, (c .before .before .before .loop-test .taken))
 
 loop-again : tie.Need-loop-again Inv-loop μ-loop
-loop-again c = (omega (arith, (c .before .before .before .loop-test .taken)), required-more ((c .before .before .before .before .loop .inv .1)) refl (c .enter-if .ensures))
+loop-again c =
+    let c₃ = c .before .before .before in
+    let c₄ = c₃ .before in
+    (omega (arith, (c₃ .loop-test .taken)), required-more (c₄ .loop .inv .1) refl (c .enter-if .ensures))
 
 returns : tie.Need-returns Inv-loop μ-loop
-returns c = required-end ((c .before .loop .inv .1)) (omega (arith, (c .loop-test .left)))
+returns c = required-end (c .before .loop .inv .1) (omega (arith, (c .loop-test .left)))
 
 pub enter-required-spec : {M : Type 1} → statement M
 enter-required-spec =

@@ -18,19 +18,31 @@ insist-list-requires : tie.Need-insist-list-requires
 insist-list-requires c κs = search needs
 
 returns : tie.Need-returns
-returns c = item-fields _ _ _ (c .before .before .before .before .item-kind .ensures) (c .before .before .before .if1 .taken) (c .before .rest .ensures) (c .insist-list .ensures)
+returns c =
+    let c₁ = c .before in
+    let c₃ = c₁ .before .before in
+    let c₄ = c₃ .before in
+    item-fields _ _ _ (c₄ .item-kind .ensures) (c₃ .if1 .taken) (c₁ .rest .ensures) (c .insist-list .ensures)
 
 is-function-requires : tie.Need-is-function-requires
 is-function-requires c κs = search needs
 
 returns-2 : tie.Need-returns-2
-returns-2 c = item-none _ _ _ (c .before .before .before .item-kind .ensures) (c .before .before .if1 .left) (c .before .is-function .ensures) (not-true _ (c .if2 .taken))
+returns-2 c =
+    let c₁ = c .before in
+    let c₂ = c₁ .before in
+    let c₃ = c₂ .before in
+    item-none _ _ _ (c₃ .item-kind .ensures) (c₂ .if1 .left) (c₁ .is-function .ensures) (not-true _ (c .if2 .taken))
 
 return-place-requires : tie.Need-return-place-requires
 return-place-requires c κs = search needs
 
 add-insist-list : tie.Need-add-insist-list
-add-insist-list c = omega (arith, (c .before .return-place .ensures), place-small ((c .before .before .before .before .before .before .before .args .s .now)) (λ i. omega (arith, (c .before .before .before .before .before .before .shared-slice-known .given) i)) ((c .before .before .before .before .before .before .before .args .i)))
+add-insist-list c =
+    let c₁ = c .before in
+    let c₆ = c₁ .before .before .before .before .before in
+    let c₇ = c₆ .before in
+    omega (arith, (c₁ .return-place .ensures), place-small (c₇ .args .s .now) (λ i. omega (arith, (c₆ .shared-slice-known .given) i)) (c₇ .args .i))
 
 insist-list-requires-2 : tie.Need-insist-list-requires-2
 insist-list-requires-2 c κs = search needs
@@ -46,7 +58,15 @@ insist-return-requires c κs = search needs
 
 returns-3 : tie.Need-returns-3
 returns-3 c =
-    item-function _ _ _ (c .before .before .before .before .before .before .before .before .before .item-kind .ensures) (c .before .before .before .before .before .before .before .before .if1 .left) (c .before .before .before .before .before .before .before .is-function .ensures) (not-false _ (c .before .before .before .before .before .before .if2 .left)) (c .before .before .before .before .before .return-place .ensures) (c .before .pair-at .ensures) (c .before .before .before .insist-list2 .ensures)
+    let c₁ = c .before in
+    let c₃ = c₁ .before .before in
+    let c₅ = c₃ .before .before in
+    let c₆ = c₅ .before in
+    let c₇ = c₆ .before in
+    let c₈ = c₇ .before in
+    let c₉ = c₈ .before in
+    item-function _ _ _ (c₉ .item-kind .ensures) (c₈ .if1 .left) (c₇ .is-function .ensures) (not-false _ (c₆ .if2 .left)) (c₅ .return-place .ensures)
+    (c₁ .pair-at .ensures) (c₃ .insist-list2 .ensures)
     (c .insist-return .ensures)
 
 pub insist-item-spec : {M : Type 1} → statement M

@@ -1,7 +1,6 @@
 -- `types::reasons::insist_rows` meets its contract. The invariant: the reasons of the first k rows are counted.
 -- Assumes nothing.
 use Prim.Native.Nat.{_≤_, _-_, _*_}
-use mathlib.Core.Path.{_≡_}
 use native.Mathlib.Omega.{arith}
 use Rattle.rules.specs.Base.{over}
 use Rattle.rules.specs.Format.{pairAt}
@@ -33,14 +32,22 @@ loop-less c = omega (arith, (c .before .before .before .loop-test .taken))
 
 loop-again : tie.Need-loop-again Inv-loop μ-loop
 loop-again c =
-    let a = (c .before .before .before .before .before .before .before .args) in
-    let e = (c .before .collected-row .ensures) in
-    (omega (arith, (c .before .before .before .loop-test .taken)), over-more (λ j. ofRow (a .s .now) (a .sets .now) (pairAt (a .scratch .now) (2 * j))) ((c .before .before .before .before .loop .k)) ((c .before .before .before .before .loop .inv .1)) (rw e at (c .insist-row .ensures)))
+    let c₁ = c .before in
+    let c₃ = c₁ .before .before in
+    let c₄ = c₃ .before in
+    let c₇ = c₄ .before .before .before in
+    let a = c₇ .args in
+    let e = c₁ .collected-row .ensures in (
+      omega (arith, (c₃ .loop-test .taken)),
+      over-more (λ j. ofRow (a .s .now) (a .sets .now) (pairAt (a .scratch .now) (2 * j))) (c₄ .loop .k)
+          (c₄ .loop .inv .1) (rw e at (c .insist-row .ensures)),
+    )
 
 returns : tie.Need-returns Inv-loop μ-loop
 returns c =
-    let a = (c .before .before .before .before .args) in
-    over-end (λ j. ofRow (a .s .now) (a .sets .now) (pairAt (a .scratch .now) (2 * j))) ((c .before .loop .k)) ((c .before .loop .inv .1)) (omega (arith, (c .loop-test .left)))
+    let a = c .before .before .before .before .args in
+    over-end (λ j. ofRow (a .s .now) (a .sets .now) (pairAt (a .scratch .now) (2 * j))) (c .before .loop .k) (c .before .loop .inv .1)
+    (omega (arith, (c .loop-test .left)))
 
 pub insist-rows-spec : {M : Type 1} → statement M
 insist-rows-spec =

@@ -12,11 +12,11 @@ add-result c = search needs
 
 returns : tie.Need-returns
 unfolding oneMore if_then_else_
-returns c = rw (lt-ltb ((c .before .args .x)) 65535 (c .if1 .taken))
+returns c = rw (lt-ltb (c .before .args .x) 65535 (c .if1 .taken))
 
 returns-2 : tie.Need-returns-2
 unfolding oneMore if_then_else_
-returns-2 c = rw (le-ltb ((c .before .args .x)) 65535 (c .if1 .left))
+returns-2 c = rw (le-ltb (c .before .args .x) 65535 (c .if1 .left))
 
 pub one-more-spec : {M : Type 1} → statement M
 one-more-spec = tie.close (tie.spec add-result returns returns-2)

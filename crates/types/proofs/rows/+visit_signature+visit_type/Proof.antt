@@ -4,7 +4,7 @@
 use borrow.Author.Needs.{needs}
 use Prim.Native.Nat.{_≤_, _+_, _*_, _-_}
 use mathlib.Core.Path.{_≡_, refl, sym, ap, _∙_}
-use mathlib.Core.Bool.{true, false}
+use mathlib.Core.Bool.{true}
 use mathlib.Core.List.{[], _∷_}
 use mathlib.Core.Logic.{⊎-elim}
 use native.Mathlib.Omega.{arith}
@@ -13,7 +13,8 @@ use Rattle.rules.specs.View.{kind, orNothing, fnReturn}
 use Rattle.laws.proofs.Accepted.Rows.{row-of}
 use Rattle.laws.proofs.Collect.Shown.{leaf, shown-leaf, shown-fn}
 use Rattle.types.specs.Scratch.{Walks}
-use Rattle.types.proofs.Walking.{few, held-next, still, wider, further, old, new, none, one, firstRows, to-none, to-more, to-end, not-none, inner-less, shown-one, args-less, args-are}
+use Rattle.types.proofs.Walking.{few, held-next, still, wider, further, old, new, none, one}
+use Rattle.types.proofs.Walking.{firstRows, to-none, to-more, to-end, not-none, inner-less, shown-one, args-less, args-are}
 use Prim.Native.Nat.{ℕ, _<_}
 use borrow.Fn.Kinds.{In}
 use borrow.Fn.PlainCycle.{Measures, is, falls, and}
@@ -66,13 +67,40 @@ visit-type-below t =
     and 2 visit-type-kinds.ps (falls 2 visit-type-kinds.ps _<_ μ-visit-type t) visit-type.Pre
 
 abbrev signature-calls : ℕ → visit-signature-lts.Claims
-signature-calls t = (fn-return-reads.Asked, fn-return-reads.Learnt, visit-type-below t, visit-type.Post, offset-reads.Asked, offset-reads.Learnt, pair-at-reads.Asked, pair-at-reads.Learnt, entry-reads.Asked, entry-reads.Learnt)
+signature-calls t = (
+  fn-return-reads.Asked,
+  fn-return-reads.Learnt,
+  visit-type-below t,
+  visit-type.Post,
+  offset-reads.Asked,
+  offset-reads.Learnt,
+  pair-at-reads.Asked,
+  pair-at-reads.Learnt,
+  entry-reads.Asked,
+  entry-reads.Learnt,
+)
 
 abbrev type-calls : ℕ → visit-type-lts.Claims
-type-calls t = (seen-reads.Asked, seen-reads.Learnt, add-reads.Asked, add-reads.Learnt, kind-reads.Asked, kind-reads.Learnt, leaf-reads.Asked, leaf-reads.Learnt, visit-signature-below t, visit-signature.Post, inner-reads.Asked, inner-reads.Learnt, visit-type-below t, visit-type.Post)
+type-calls t = (
+  seen-reads.Asked,
+  seen-reads.Learnt,
+  add-reads.Asked,
+  add-reads.Learnt,
+  kind-reads.Asked,
+  kind-reads.Learnt,
+  leaf-reads.Asked,
+  leaf-reads.Learnt,
+  visit-signature-below t,
+  visit-signature.Post,
+  inner-reads.Asked,
+  inner-reads.Learnt,
+  visit-type-below t,
+  visit-type.Post,
+)
 
 abbrev visit-signature-Inv-loop : visit-signature-lts.InvT-loop
-visit-signature-Inv-loop s scratch₀ n row m₀ result args count j₀ scratch m j = (length scratch ≡ length scratch₀) × (j ≤ count) × Walks s scratch₀ scratch m₀ row (firstRows s args j) m
+visit-signature-Inv-loop s scratch₀ n row m₀ result args count j₀ scratch m j = (length scratch ≡ length scratch₀) × (j ≤ count) × Walks s scratch₀ scratch
+    m₀ row (firstRows s args j) m
 
 abbrev visit-signature-μ-loop : visit-signature-lts.MeasureT-loop
 visit-signature-μ-loop s scratch₀ n row m₀ result args count j₀ scratch m j = count - j
@@ -80,14 +108,14 @@ visit-signature-μ-loop s scratch₀ n row m₀ result args count j₀ scratch m
 module _ (t : ℕ) where
   -- where the ways meet: the return is collected, if there is one
   joined : (c : visit-signature-lts.Joined1 (signature-calls t) (visit-signature-at t) visit-signature.Post visit-signature-Inv-loop visit-signature-μ-loop)
-      → let a = (c .before .before .before .before .args) in
+      → let a = c .before .before .before .before .args in
       Walks (a .s .now) (a .scratch .now) (c .if1 .scratch) (a .n) (a .row) (orNothing (fnReturn (a .s .now) (a .row))) (c .if1 .m)
       × (length (c .if1 .scratch) ≡ length (a .scratch .now))
   joined c =
-      let a = (c .before .before .before .before .args) in
-      let R = (c .before .before .before .before .pre .1) in
+      let a = c .before .before .before .before .args in
+      let R = c .before .before .before .before .pre .1 in
       let row = row-of (a .s .now) (R .ready .walk .accepted) (a .row) (R .ready .below) in
-      let e = (c .before .fn-return .ensures) in
+      let e = c .before .fn-return .ensures in
       ⊎-elim
       (λ w.
       let l = not-none (row .return-falls (R .is-fn)) (λ q. w .0 .taken (e ∙ q)) in
@@ -95,90 +123,136 @@ module _ (t : ℕ) where
       (λ w. rw (w .1, w .2, ← e) (none (R .ready .walk) (w .0 .left), refl))
       (c .if1 .came)
 
-  visit-signature-fn-return-requires : visit-signature-lts.Need-fn-return-requires (signature-calls t) (visit-signature-at t) visit-signature.Post visit-signature-Inv-loop visit-signature-μ-loop
+  visit-signature-fn-return-requires : visit-signature-lts.Need-fn-return-requires (signature-calls t) (visit-signature-at t) visit-signature.Post
+      visit-signature-Inv-loop visit-signature-μ-loop
   visit-signature-fn-return-requires c κs = search needs
 
-  visit-signature-visit-type-requires : visit-signature-lts.Need-visit-type-requires (signature-calls t) (visit-signature-at t) visit-signature.Post visit-signature-Inv-loop visit-signature-μ-loop
+  visit-signature-visit-type-requires : visit-signature-lts.Need-visit-type-requires (signature-calls t) (visit-signature-at t) visit-signature.Post
+      visit-signature-Inv-loop visit-signature-μ-loop
   visit-signature-visit-type-requires c κs =
-      let a = (c .before .before .before .before .before .args) in
-      let R = (c .before .before .before .before .before .pre .1) in
+      let c₁ = c .before in
+      let c₂ = c₁ .before in
+      let c₅ = c₂ .before .before .before in
+      let a = c₅ .args in
+      let R = c₅ .pre .1 in
       let row = row-of (a .s .now) (R .ready .walk .accepted) (a .row) (R .ready .below) in
-      let l = not-none (row .return-falls (R .is-fn)) (λ e. (c .before .if1 .taken) ((c .before .before .fn-return .ensures) ∙ e)) in
-      let e = (c .before .before .fn-return .ensures) in
+      let l = not-none (row .return-falls (R .is-fn)) (λ e. (c₁ .if1 .taken) ((c₂ .fn-return .ensures) ∙ e)) in
+      let e = c₂ .fn-return .ensures in
       let b = R .ready .below in
-      let q = (c .before .before .before .before .before .pre .0) in
+      let q = c₅ .pre .0 in
       (omega arith, record { walk = R .ready .walk; below = omega arith })
 
-  visit-signature-offset-requires : visit-signature-lts.Need-offset-requires (signature-calls t) (visit-signature-at t) visit-signature.Post visit-signature-Inv-loop visit-signature-μ-loop
+  visit-signature-offset-requires : visit-signature-lts.Need-offset-requires (signature-calls t) (visit-signature-at t) visit-signature.Post
+      visit-signature-Inv-loop visit-signature-μ-loop
   visit-signature-offset-requires c κs = search needs
 
-  visit-signature-cast-args : visit-signature-lts.Need-cast-args (signature-calls t) (visit-signature-at t) visit-signature.Post visit-signature-Inv-loop visit-signature-μ-loop
+  visit-signature-cast-args : visit-signature-lts.Need-cast-args (signature-calls t) (visit-signature-at t) visit-signature.Post visit-signature-Inv-loop
+      visit-signature-μ-loop
   visit-signature-cast-args c = omega arith
 
-  visit-signature-add-args : visit-signature-lts.Need-add-args (signature-calls t) (visit-signature-at t) visit-signature.Post visit-signature-Inv-loop visit-signature-μ-loop
+  visit-signature-add-args : visit-signature-lts.Need-add-args (signature-calls t) (visit-signature-at t) visit-signature.Post visit-signature-Inv-loop
+      visit-signature-μ-loop
   visit-signature-add-args c = omega arith
 
-  visit-signature-cast-pair-at : visit-signature-lts.Need-cast-pair-at (signature-calls t) (visit-signature-at t) visit-signature.Post visit-signature-Inv-loop visit-signature-μ-loop
+  visit-signature-cast-pair-at : visit-signature-lts.Need-cast-pair-at (signature-calls t) (visit-signature-at t) visit-signature.Post
+      visit-signature-Inv-loop visit-signature-μ-loop
   visit-signature-cast-pair-at c = omega arith
 
-  visit-signature-pair-at-requires : visit-signature-lts.Need-pair-at-requires (signature-calls t) (visit-signature-at t) visit-signature.Post visit-signature-Inv-loop visit-signature-μ-loop
+  visit-signature-pair-at-requires : visit-signature-lts.Need-pair-at-requires (signature-calls t) (visit-signature-at t) visit-signature.Post
+      visit-signature-Inv-loop visit-signature-μ-loop
   visit-signature-pair-at-requires c κs = search needs
 
-  visit-signature-loop-holds : visit-signature-lts.Need-loop-holds (signature-calls t) (visit-signature-at t) visit-signature.Post visit-signature-Inv-loop visit-signature-μ-loop
+  visit-signature-loop-holds : visit-signature-lts.Need-loop-holds (signature-calls t) (visit-signature-at t) visit-signature.Post visit-signature-Inv-loop
+      visit-signature-μ-loop
   visit-signature-loop-holds c =
-      let a = (c .before .before .before .before .before .before .args) in
-      let R = (c .before .before .before .before .before .before .pre .1) in
+      let c₁ = c .before in
+      let c₂ = c₁ .before in
+      let c₆ = c₂ .before .before .before .before in
+      let a = c₆ .args in
+      let R = c₆ .pre .1 in
       let row = row-of (a .s .now) (R .ready .walk .accepted) (a .row) (R .ready .below) in
-      (refl, omega arith, to-none ((c .before .offset .result) + 6) (joined (c .before .before) .0 .grown (a .row) (omega arith) .held))
+      (refl, omega arith, to-none ((c₁ .offset .result) + 6) (joined c₂ .0 .grown (a .row) (omega arith) .held))
 
-  visit-signature-entry-requires : visit-signature-lts.Need-entry-requires (signature-calls t) (visit-signature-at t) visit-signature.Post visit-signature-Inv-loop visit-signature-μ-loop
+  visit-signature-entry-requires : visit-signature-lts.Need-entry-requires (signature-calls t) (visit-signature-at t) visit-signature.Post
+      visit-signature-Inv-loop visit-signature-μ-loop
   visit-signature-entry-requires c κs = search needs
 
-  visit-signature-visit-type-requires-2 : visit-signature-lts.Need-visit-type-requires-2 (signature-calls t) (visit-signature-at t) visit-signature.Post visit-signature-Inv-loop visit-signature-μ-loop
+  visit-signature-visit-type-requires-2 : visit-signature-lts.Need-visit-type-requires-2 (signature-calls t) (visit-signature-at t) visit-signature.Post
+      visit-signature-Inv-loop visit-signature-μ-loop
   visit-signature-visit-type-requires-2 c κs =
-      let a = (c .before .before .before .before .before .before .before .before .before .before .args) in
-      let R = (c .before .before .before .before .before .before .before .before .before .before .pre .1) in
+      let c₁ = c .before in
+      let c₂ = c₁ .before in
+      let c₃ = c₂ .before in
+      let c₄ = c₃ .before in
+      let c₅ = c₄ .before in
+      let c₆ = c₅ .before in
+      let c₁₀ = c₆ .before .before .before .before in
+      let a = c₁₀ .args in
+      let R = c₁₀ .pre .1 in
       let row = row-of (a .s .now) (R .ready .walk .accepted) (a .row) (R .ready .below) in
-      let l = (c .before .before .before .loop) in
-      let x = args-less (a .s .now) row (R .is-fn) (c .before .before .before .before .before .offset .ensures) (c .before .before .before .before .pair-at .ensures) (c .before .before .loop-test .taken) (c .before .entry .ensures) in
+      let l = c₃ .loop in
+      let x = args-less (a .s .now) row (R .is-fn) (c₅ .offset .ensures) (c₄ .pair-at .ensures) (c₂ .loop-test .taken) (c₁ .entry .ensures) in
       let b = R .ready .below in
-      let q = (c .before .before .before .before .before .before .before .before .before .before .pre .0) in
-      (omega arith, record { walk = held-next (R .ready .walk) (l .inv .2 .grown (a .row) (omega arith) .held) (l .inv .0 ∙ joined (c .before .before .before .before .before .before) .1); below = omega arith })
+      let q = c₁₀ .pre .0 in (
+        omega arith,
+        record {
+          walk = held-next (R .ready .walk) (l .inv .2 .grown (a .row) (omega arith) .held) (l .inv .0 ∙ joined c₆ .1);
+          below = omega
+              arith;
+        },
+      )
 
-  visit-signature-add-j : visit-signature-lts.Need-add-j (signature-calls t) (visit-signature-at t) visit-signature.Post visit-signature-Inv-loop visit-signature-μ-loop
+  visit-signature-add-j : visit-signature-lts.Need-add-j (signature-calls t) (visit-signature-at t) visit-signature.Post visit-signature-Inv-loop
+      visit-signature-μ-loop
   visit-signature-add-j c = omega arith
 
-  visit-signature-loop-less : visit-signature-lts.Need-loop-less (signature-calls t) (visit-signature-at t) visit-signature.Post visit-signature-Inv-loop visit-signature-μ-loop
+  visit-signature-loop-less : visit-signature-lts.Need-loop-less (signature-calls t) (visit-signature-at t) visit-signature.Post visit-signature-Inv-loop
+      visit-signature-μ-loop
   visit-signature-loop-less c = omega arith
 
-  visit-signature-loop-again : visit-signature-lts.Need-loop-again (signature-calls t) (visit-signature-at t) visit-signature.Post visit-signature-Inv-loop visit-signature-μ-loop
+  visit-signature-loop-again : visit-signature-lts.Need-loop-again (signature-calls t) (visit-signature-at t) visit-signature.Post visit-signature-Inv-loop
+      visit-signature-μ-loop
   visit-signature-loop-again c =
-      let a = (c .before .before .before .before .before .before .before .before .before .before .before .before .before .args) in
-      let R = (c .before .before .before .before .before .before .before .before .before .before .before .before .before .pre .1) in
+      let c₂ = c .before .before in
+      let c₄ = c₂ .before .before in
+      let c₅ = c₄ .before in
+      let c₆ = c₅ .before in
+      let c₇ = c₆ .before in
+      let c₈ = c₇ .before in
+      let c₁₃ = c₈ .before .before .before .before .before in
+      let a = c₁₃ .args in
+      let R = c₁₃ .pre .1 in
       let row = row-of (a .s .now) (R .ready .walk .accepted) (a .row) (R .ready .below) in
-      let l = (c .before .before .before .before .before .before .loop) in
-      let x = args-less (a .s .now) row (R .is-fn) (c .before .before .before .before .before .before .before .before .offset .ensures) (c .before .before .before .before .before .before .before .pair-at .ensures) (c .before .before .before .before .before .loop-test .taken) (c .before .before .before .before .entry .ensures) in
-      let v = (c .before .before .visit-type2) in
-      let g = (c .before .before .before .before .before .loop-test .taken) in
-      (v .kept .1 .0 ∙ l .inv .0, omega arith, to-more ((c .before .before .before .before .before .before .before .before .offset .result) + 6) (l .j) (l .inv .2) (c .before .before .before .before .entry .ensures) x (v .ensures))
+      let l = c₆ .loop in
+      let x = args-less (a .s .now) row (R .is-fn) (c₈ .offset .ensures) (c₇ .pair-at .ensures) (c₅ .loop-test .taken) (c₄ .entry .ensures) in
+      let v = c₂ .visit-type2 in
+      let g = c₅ .loop-test .taken in
+      (v .kept .1 .0 ∙ l .inv .0, omega arith, to-more ((c₈ .offset .result) + 6) (l .j) (l .inv .2) (c₄ .entry .ensures) x (v .ensures))
 
-  visit-signature-same-length : visit-signature-lts.Need-same-length (signature-calls t) (visit-signature-at t) visit-signature.Post visit-signature-Inv-loop visit-signature-μ-loop
+  visit-signature-same-length : visit-signature-lts.Need-same-length (signature-calls t) (visit-signature-at t) visit-signature.Post
+      visit-signature-Inv-loop visit-signature-μ-loop
   visit-signature-same-length c = (c .before .loop .inv .0) ∙ joined (c .before .before .before .before) .1
 
-  visit-signature-returns : visit-signature-lts.Need-returns (signature-calls t) (visit-signature-at t) visit-signature.Post visit-signature-Inv-loop visit-signature-μ-loop
+  visit-signature-returns : visit-signature-lts.Need-returns (signature-calls t) (visit-signature-at t) visit-signature.Post visit-signature-Inv-loop
+      visit-signature-μ-loop
   visit-signature-returns c =
-      let a = (c .before .before .before .before .before .before .before .before .args) in
-      let R = (c .before .before .before .before .before .before .before .before .pre .1) in
+      let c₁ = c .before in
+      let c₂ = c₁ .before in
+      let c₃ = c₂ .before in
+      let c₄ = c₃ .before in
+      let c₈ = c₄ .before .before .before .before in
+      let a = c₈ .args in
+      let R = c₈ .pre .1 in
       let row = row-of (a .s .now) (R .ready .walk .accepted) (a .row) (R .ready .below) in
-      let l = (c .before .loop) in
-      let e : l .j ≡ (c .before .before .pair-at .result) = omega (arith, (c .loop-test .left)) in
-      let w = to-end ((c .before .before .before .offset .result) + 6) (l .j) (l .inv .2) (e ∙ (c .before .before .pair-at .ensures)) in
-      rw (← (args-are (a .s .now) (a .row) (c .before .before .before .offset .ensures))) (further (joined (c .before .before .before .before) .0) w)
+      let l = c₁ .loop in
+      let e : l .j ≡ (c₂ .pair-at .result) = omega (arith, (c .loop-test .left)) in
+      let w = to-end ((c₃ .offset .result) + 6) (l .j) (l .inv .2) (e ∙ (c₂ .pair-at .ensures)) in
+      rw (← (args-are (a .s .now) (a .row) (c₃ .offset .ensures))) (further (joined c₄ .0) w)
 
   visit-type-seen-requires : visit-type-lts.Need-seen-requires (type-calls t) (visit-type-at t) visit-type.Post
   visit-type-seen-requires c κs =
-      let a = (c .before .before .before .args) in
-      let R = (c .before .before .before .pre .1) in
+      let a = c .before .before .before .args in
+      let R = c .before .before .before .pre .1 in
       (few R, R .walk .long)
 
   visit-type-same-length : visit-type-lts.Need-same-length (type-calls t) (visit-type-at t) visit-type.Post
@@ -186,15 +260,20 @@ module _ (t : ℕ) where
 
   visit-type-returns : visit-type-lts.Need-returns (type-calls t) (visit-type-at t) visit-type.Post
   visit-type-returns c =
-      let a = (c .before .before .before .before .before .args) in
-      let R = (c .before .before .before .before .before .pre .1) in
-      old R (sym (c .before .seen .ensures) ∙ (c .if1 .taken))
+      let c₁ = c .before in
+      let c₅ = c₁ .before .before .before .before in
+      let a = c₅ .args in
+      let R = c₅ .pre .1 in
+      old R (sym (c₁ .seen .ensures) ∙ (c .if1 .taken))
 
   visit-type-add-requires : visit-type-lts.Need-add-requires (type-calls t) (visit-type-at t) visit-type.Post
   visit-type-add-requires c κs =
-      let a = (c .before .before .before .before .before .before .args) in
-      let R = (c .before .before .before .before .before .before .pre .1) in
-      let o = sym (c .before .before .seen .ensures) ∙ (c .before .if1 .left) in
+      let c₁ = c .before in
+      let c₂ = c₁ .before in
+      let c₆ = c₂ .before .before .before .before in
+      let a = c₆ .args in
+      let R = c₆ .pre .1 in
+      let o = sym (c₂ .seen .ensures) ∙ (c₁ .if1 .left) in
       ((few R, R .walk .long), (R .walk .held, o))
 
   visit-type-kind-requires : visit-type-lts.Need-kind-requires (type-calls t) (visit-type-at t) visit-type.Post
@@ -204,61 +283,107 @@ module _ (t : ℕ) where
   visit-type-leaf-requires c κs = search needs
 
   visit-type-same-length-2 : visit-type-lts.Need-same-length-2 (type-calls t) (visit-type-at t) visit-type.Post
-  visit-type-same-length-2 c = (c .before .before .before .before .before .add .kept .0)
+  visit-type-same-length-2 c = c .before .before .before .before .before .add .kept .0
 
   visit-type-returns-2 : visit-type-lts.Need-returns-2 (type-calls t) (visit-type-at t) visit-type.Post
   visit-type-returns-2 c =
-      let a = (c .before .before .before .before .before .before .before .before .before .before .before .before .args) in
-      let R = (c .before .before .before .before .before .before .before .before .before .before .before .before .pre .1) in
-      let o = sym (c .before .before .before .before .before .before .before .before .seen .ensures) ∙ (c .before .before .before .before .before .before .before .if1 .left) in
-      let d = (c .before .before .before .before .before .add) in
-      let h : leaf (kind (a .s .now) (a .row)) ≡ true = ap leaf (sym (c .before .before .kind .ensures)) ∙ sym (c .before .leaf .ensures) ∙ (c .if2 .taken) in
+      let c₁ = c .before in
+      let c₂ = c₁ .before in
+      let c₅ = c₂ .before .before .before in
+      let c₇ = c₅ .before .before in
+      let c₈ = c₇ .before in
+      let c₁₂ = c₈ .before .before .before .before in
+      let a = c₁₂ .args in
+      let R = c₁₂ .pre .1 in
+      let o = sym (c₈ .seen .ensures) ∙ (c₇ .if1 .left) in
+      let d = c₅ .add in
+      let h : leaf (kind (a .s .now) (a .row)) ≡ true = ap leaf (sym (c₂ .kind .ensures)) ∙ sym (c₁ .leaf .ensures) ∙ (c .if2 .taken) in
       new R o (d .ensures) (shown-leaf (a .s .now) (a .row) (kind (a .s .now) (a .row)) h refl) (still (d .ensures .held))
 
   visit-type-visit-signature-requires : visit-type-lts.Need-visit-signature-requires (type-calls t) (visit-type-at t) visit-type.Post
   visit-type-visit-signature-requires c κs =
-      let a = (c .before .before .before .before .before .before .before .before .before .before .before .before .before .before .args) in
-      let R = (c .before .before .before .before .before .before .before .before .before .before .before .before .before .before .pre .1) in
-      let d = (c .before .before .before .before .before .before .before .add) in
-      let q = (c .before .before .before .before .before .before .before .before .before .before .before .before .before .before .pre .0) in
-      (omega arith, record { ready = record { walk = held-next (R .walk) (d .ensures .held) (d .kept .0); below = R .below }; is-fn = sym (c .before .before .before .before .kind .ensures) ∙ (c .before .if3 .taken) })
+      let c₁ = c .before in
+      let c₄ = c₁ .before .before .before in
+      let c₇ = c₄ .before .before .before in
+      let c₁₄ = c₇ .before .before .before .before .before .before .before in
+      let a = c₁₄ .args in
+      let R = c₁₄ .pre .1 in
+      let d = c₇ .add in
+      let q = c₁₄ .pre .0 in (
+        omega arith,
+        record {
+          ready = record { walk = held-next (R .walk) (d .ensures .held) (d .kept .0); below = R .below };
+          is-fn = sym
+              (c₄ .kind .ensures) ∙ (c₁ .if3 .taken);
+        },
+      )
 
   visit-type-same-length-3 : visit-type-lts.Need-same-length-3 (type-calls t) (visit-type-at t) visit-type.Post
-  visit-type-same-length-3 c = (c .before .before .visit-signature .kept .1 .0) ∙ (c .before .before .before .before .before .before .before .before .before .before .add .kept .0)
+  visit-type-same-length-3 c =
+      let c₂ = c .before .before in
+      let c₁₀ = c₂ .before .before .before .before .before .before .before .before in
+      (c₂ .visit-signature .kept .1 .0) ∙ (c₁₀ .add .kept .0)
 
   visit-type-returns-3 : visit-type-lts.Need-returns-3 (type-calls t) (visit-type-at t) visit-type.Post
   visit-type-returns-3 c =
-      let a = (c .before .before .before .before .before .before .before .before .before .before .before .before .before .before .before .before .before .args) in
-      let R = (c .before .before .before .before .before .before .before .before .before .before .before .before .before .before .before .before .before .pre .1) in
-      let o = sym (c .before .before .before .before .before .before .before .before .before .before .before .before .before .seen .ensures) ∙ (c .before .before .before .before .before .before .before .before .before .before .before .before .if1 .left) in
-      new R o (c .before .before .before .before .before .before .before .before .before .before .add .ensures) (shown-fn (a .s .now) (a .row) (sym (c .before .before .before .before .before .before .before .kind .ensures) ∙ (c .before .before .before .before .if3 .taken))) (c .before .before .visit-signature .ensures)
+      let c₂ = c .before .before in
+      let c₄ = c₂ .before .before in
+      let c₇ = c₄ .before .before .before in
+      let c₁₀ = c₇ .before .before .before in
+      let c₁₂ = c₁₀ .before .before in
+      let c₁₃ = c₁₂ .before in
+      let c₁₇ = c₁₃ .before .before .before .before in
+      let a = c₁₇ .args in
+      let R = c₁₇ .pre .1 in
+      let o = sym (c₁₃ .seen .ensures) ∙ (c₁₂ .if1 .left) in
+      new R o (c₁₀ .add .ensures) (shown-fn (a .s .now) (a .row) (sym (c₇ .kind .ensures) ∙ (c₄ .if3 .taken))) (c₂ .visit-signature .ensures)
 
   visit-type-inner-requires : visit-type-lts.Need-inner-requires (type-calls t) (visit-type-at t) visit-type.Post
   visit-type-inner-requires c κs = search needs
 
   visit-type-visit-type-requires : visit-type-lts.Need-visit-type-requires (type-calls t) (visit-type-at t) visit-type.Post
   visit-type-visit-type-requires c κs =
-      let a = (c .before .before .before .before .before .before .before .before .before .before .before .before .before .before .before .args) in
-      let R = (c .before .before .before .before .before .before .before .before .before .before .before .before .before .before .before .pre .1) in
-      let d = (c .before .before .before .before .before .before .before .before .add) in
-      let e = (c .before .inner .ensures) in
-      let q = (c .before .before .before .before .before .before .before .before .before .before .before .before .before .before .before .pre .0) in
-      let l = inner-less (a .s .now) (R .walk .accepted) (a .row) (R .below) (c .before .before .before .before .before .kind .ensures) (sym (c .before .before .before .before .leaf .ensures) ∙ (c .before .before .before .if2 .left)) (c .before .before .if3 .left) in
+      let c₁ = c .before in
+      let c₂ = c₁ .before in
+      let c₃ = c₂ .before in
+      let c₄ = c₃ .before in
+      let c₅ = c₄ .before in
+      let c₈ = c₅ .before .before .before in
+      let c₁₅ = c₈ .before .before .before .before .before .before .before in
+      let a = c₁₅ .args in
+      let R = c₁₅ .pre .1 in
+      let d = c₈ .add in
+      let e = c₁ .inner .ensures in
+      let q = c₁₅ .pre .0 in
+      let l = inner-less (a .s .now) (R .walk .accepted) (a .row) (R .below) (c₅ .kind .ensures) (sym (c₄ .leaf .ensures) ∙ (c₃ .if2 .left)) (c₂ .if3 .left) in
       let b = R .below in
       (omega arith, record { walk = held-next (R .walk) (d .ensures .held) (d .kept .0); below = omega arith })
 
   visit-type-same-length-4 : visit-type-lts.Need-same-length-4 (type-calls t) (visit-type-at t) visit-type.Post
-  visit-type-same-length-4 c = (c .before .before .visit-type .kept .1 .0) ∙ (c .before .before .before .before .before .before .before .before .before .before .before .add .kept .0)
+  visit-type-same-length-4 c =
+      let c₂ = c .before .before in
+      let c₁₁ = c₂ .before .before .before .before .before .before .before .before .before in
+      (c₂ .visit-type .kept .1 .0) ∙ (c₁₁ .add .kept .0)
 
   visit-type-returns-4 : visit-type-lts.Need-returns-4 (type-calls t) (visit-type-at t) visit-type.Post
   visit-type-returns-4 c =
-      let a = (c .before .before .before .before .before .before .before .before .before .before .before .before .before .before .before .before .before .before .args) in
-      let R = (c .before .before .before .before .before .before .before .before .before .before .before .before .before .before .before .before .before .before .pre .1) in
-      let o = sym (c .before .before .before .before .before .before .before .before .before .before .before .before .before .before .seen .ensures) ∙ (c .before .before .before .before .before .before .before .before .before .before .before .before .before .if1 .left) in
-      let e = (c .before .before .before .before .inner .ensures) in
-      let l = inner-less (a .s .now) (R .walk .accepted) (a .row) (R .below) (c .before .before .before .before .before .before .before .before .kind .ensures) (sym (c .before .before .before .before .before .before .before .leaf .ensures) ∙ (c .before .before .before .before .before .before .if2 .left)) (c .before .before .before .before .before .if3 .left) in
-      let q = shown-one (a .s .now) (a .row) (c .before .before .before .before .before .before .before .before .kind .ensures) (sym (c .before .before .before .before .before .before .before .leaf .ensures) ∙ (c .before .before .before .before .before .before .if2 .left)) (c .before .before .before .before .before .if3 .left) in
-      new R o (c .before .before .before .before .before .before .before .before .before .before .before .add .ensures) (q ∙ ap (λ x. x ∷ []) (sym e)) (wider (c .before .before .visit-type .ensures) (omega arith))
+      let c₂ = c .before .before in
+      let c₄ = c₂ .before .before in
+      let c₅ = c₄ .before in
+      let c₆ = c₅ .before in
+      let c₇ = c₆ .before in
+      let c₈ = c₇ .before in
+      let c₁₁ = c₈ .before .before .before in
+      let c₁₃ = c₁₁ .before .before in
+      let c₁₄ = c₁₃ .before in
+      let c₁₈ = c₁₄ .before .before .before .before in
+      let a = c₁₈ .args in
+      let R = c₁₈ .pre .1 in
+      let o = sym (c₁₄ .seen .ensures) ∙ (c₁₃ .if1 .left) in
+      let e = c₄ .inner .ensures in
+      let l = inner-less (a .s .now) (R .walk .accepted) (a .row) (R .below) (c₈ .kind .ensures) (sym (c₇ .leaf .ensures) ∙ (c₆ .if2 .left)) (c₅ .if3 .left) in
+      let q = shown-one (a .s .now) (a .row) (c₈ .kind .ensures) (sym (c₇ .leaf .ensures) ∙ (c₆ .if2 .left)) (c₅ .if3 .left) in
+      new R o (c₁₁ .add .ensures) (q ∙ ap (λ x. x ∷ []) (sym e)) (wider (c₂ .visit-type .ensures) (omega arith))
 
 pub +visit-signature+visit-type-spec : {M : Type 1} → statement M
 +visit-signature+visit-type-spec =

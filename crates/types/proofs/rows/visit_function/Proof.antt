@@ -12,12 +12,18 @@ return-place-requires : tie.Need-return-place-requires
 return-place-requires c κs = search needs
 
 add-visit-list : tie.Need-add-visit-list
-add-visit-list c = omega (arith, (c .before .return-place .ensures), place-small ((c .before .before .before .before .args .s .now)) (λ i. omega (arith, (c .before .before .before .shared-slice-known .given) i)) ((c .before .before .before .before .args .i)))
+add-visit-list c =
+    let c₁ = c .before in
+    let c₃ = c₁ .before .before in
+    let c₄ = c₃ .before in
+    omega (arith, (c₁ .return-place .ensures), place-small (c₄ .args .s .now) (λ i. omega (arith, (c₃ .shared-slice-known .given) i)) (c₄ .args .i))
 
 visit-list-requires : tie.Need-visit-list-requires
 visit-list-requires c κs =
-    let p = (c .before .before .before .before .pre .ready) in
-    record { walk = p .walk; below = args-below _ (p .walk .accepted) _ (p .below) (c .before .before .before .before .pre .is-function) (c .before .return-place .ensures) }
+    let c₁ = c .before in
+    let c₄ = c₁ .before .before .before in
+    let p = c₄ .pre .ready in
+    record { walk = p .walk; below = args-below _ (p .walk .accepted) _ (p .below) (c₄ .pre .is-function) (c₁ .return-place .ensures) }
 
 cast-pair-at : tie.Need-cast-pair-at
 cast-pair-at c = search needs
@@ -27,18 +33,27 @@ pair-at-requires c κs = search needs
 
 visit-return-requires : tie.Need-visit-return-requires
 visit-return-requires c κs =
-    let p = (c .before .before .before .before .before .before .before .before .before .pre .ready) in
-    let v = (c .before .before .before .before .visit-list) in
+    let c₁ = c .before in
+    let c₄ = c₁ .before .before .before in
+    let c₆ = c₄ .before .before in
+    let c₉ = c₆ .before .before .before in
+    let p = c₉ .pre .ready in
+    let v = c₄ .visit-list in
     record {
       walk = held-next (p .walk) (v .ensures .grown _ (le-refl _) .held) (v .kept .1 .0);
-      below = return-below _ (p .walk .accepted) _ (p .below) (c .before .before .before .before .before .before .before .before .before .pre .is-function) (c .before .before .before .before .before .before .return-place .ensures) (c .before .pair-at .ensures);
+      below = return-below _ (p .walk .accepted) _ (p .below) (c₉ .pre .is-function) (c₆ .return-place .ensures) (c₁ .pair-at .ensures);
     }
 
 same-length : tie.Need-same-length
 same-length c = search needs
 
 returns : tie.Need-returns
-returns c = function-walk _ (c .before .before .before .before .before .before .before .before .before .return-place .ensures) (c .before .before .before .before .pair-at .ensures) (c .before .before .before .before .before .before .before .visit-list .ensures) (c .before .before .visit-return .ensures)
+returns c =
+    let c₂ = c .before .before in
+    let c₄ = c₂ .before .before in
+    let c₇ = c₄ .before .before .before in
+    let c₉ = c₇ .before .before in
+    function-walk _ (c₉ .return-place .ensures) (c₄ .pair-at .ensures) (c₇ .visit-list .ensures) (c₂ .visit-return .ensures)
 
 pub visit-function-spec : {M : Type 1} → statement M
 visit-function-spec =

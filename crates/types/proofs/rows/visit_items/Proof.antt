@@ -28,10 +28,14 @@ loop-holds c = (refl, omega arith, items-none (c .before .before .before .pre))
 
 visit-item-requires : tie.Need-visit-item-requires Inv-loop μ-loop
 visit-item-requires c κs =
-    let l = (c .before .before .loop) in
+    let c₁ = c .before in
+    let c₂ = c₁ .before in
+    let c₃ = c₂ .before in
+    let c₆ = c₃ .before .before .before in
+    let l = c₂ .loop in
     record {
-      walk = held-next (c .before .before .before .before .before .before .pre) (l .inv .2 .grown _ (le-refl _) .held) (l .inv .0);
-      below = omega (arith, (c .before .loop-test .taken), (c .before .before .before .items .ensures));
+      walk = held-next (c₆ .pre) (l .inv .2 .grown _ (le-refl _) .held) (l .inv .0);
+      below = omega (arith, (c₁ .loop-test .taken), (c₃ .items .ensures));
     }
 
 add-i : tie.Need-add-i Inv-loop μ-loop
@@ -42,17 +46,23 @@ loop-less c = omega (arith, (c .before .before .before .before .loop-test .taken
 
 loop-again : tie.Need-loop-again Inv-loop μ-loop
 loop-again c =
-    let l = (c .before .before .before .before .before .loop) in
-    let v = (c .before .before .visit-item) in
-    (v .kept .1 .0 ∙ l .inv .0, omega (arith, (c .before .before .before .before .loop-test .taken)), items-more (l .i) (l .inv .2) (v .ensures))
+    let c₂ = c .before .before in
+    let c₄ = c₂ .before .before in
+    let c₅ = c₄ .before in
+    let l = c₅ .loop in
+    let v = c₂ .visit-item in
+    (v .kept .1 .0 ∙ l .inv .0, omega (arith, (c₄ .loop-test .taken)), items-more (l .i) (l .inv .2) (v .ensures))
 
 same-length : tie.Need-same-length Inv-loop μ-loop
-same-length c = (c .before .loop .inv .0)
+same-length c = c .before .loop .inv .0
 
 returns : tie.Need-returns Inv-loop μ-loop
 returns c =
-    let l = (c .before .loop) in
-    items-end (l .i) (c .before .before .before .before .before .pre .accepted) (l .inv .2) (omega (arith, (c .loop-test .left), (c .before .before .items .ensures)))
+    let c₁ = c .before in
+    let c₂ = c₁ .before in
+    let c₅ = c₂ .before .before .before in
+    let l = c₁ .loop in
+    items-end (l .i) (c₅ .pre .accepted) (l .inv .2) (omega (arith, (c .loop-test .left), (c₂ .items .ensures)))
 
 pub visit-items-spec : {M : Type 1} → statement M
 visit-items-spec =

@@ -22,18 +22,23 @@ pair-at-requires : tie.Need-pair-at-requires Inv-loop μ-loop
 pair-at-requires c κs = tt
 
 loop-holds : tie.Need-loop-holds Inv-loop μ-loop
-loop-holds c = (refl, omega arith, to-none _ ((c .before .before .before .pre .walk .held)))
+loop-holds c = (refl, omega arith, to-none _ (c .before .before .before .pre .walk .held))
 
 entry-requires : tie.Need-entry-requires Inv-loop μ-loop
 entry-requires c κs = search needs
 
 visit-type-requires : tie.Need-visit-type-requires Inv-loop μ-loop
 visit-type-requires c κs =
-    let p = (c .before .before .before .before .before .before .before .pre) in
-    let l = (c .before .before .before .loop) in
-    let g = (c .before .before .loop-test .taken) in
-    let x = p .below (l .j) (omega (arith, (c .before .before .before .before .pair-at .ensures))) in
-    let e = (c .before .entry .ensures) in
+    let c₁ = c .before in
+    let c₂ = c₁ .before in
+    let c₃ = c₂ .before in
+    let c₄ = c₃ .before in
+    let c₇ = c₄ .before .before .before in
+    let p = c₇ .pre in
+    let l = c₃ .loop in
+    let g = c₂ .loop-test .taken in
+    let x = p .below (l .j) (omega (arith, (c₄ .pair-at .ensures))) in
+    let e = c₁ .entry .ensures in
     record { walk = held-next (p .walk) (l .inv .2 .grown _ (le-refl _) .held) (l .inv .0); below = omega arith }
 
 add-j : tie.Need-add-j Inv-loop μ-loop
@@ -44,20 +49,26 @@ loop-less c = omega (arith, (c .before .before .before .before .before .loop-tes
 
 loop-again : tie.Need-loop-again Inv-loop μ-loop
 loop-again c =
-    let p = (c .before .before .before .before .before .before .before .before .before .before .pre) in
-    let l = (c .before .before .before .before .before .before .loop) in
-    let g = (c .before .before .before .before .before .loop-test .taken) in
-    let x = p .below (l .j) (omega (arith, (c .before .before .before .before .before .before .before .pair-at .ensures))) in
-    let e = (c .before .before .before .before .entry .ensures) in
-    let v = (c .before .before .visit-type) in
+    let c₂ = c .before .before in
+    let c₄ = c₂ .before .before in
+    let c₅ = c₄ .before in
+    let c₆ = c₅ .before in
+    let c₇ = c₆ .before in
+    let c₁₀ = c₇ .before .before .before in
+    let p = c₁₀ .pre in
+    let l = c₆ .loop in
+    let g = c₅ .loop-test .taken in
+    let x = p .below (l .j) (omega (arith, (c₇ .pair-at .ensures))) in
+    let e = c₄ .entry .ensures in
+    let v = c₂ .visit-type in
     (v .kept .1 .0 ∙ l .inv .0, omega arith, to-more _ (l .j) (l .inv .2) e (omega arith) (v .ensures))
 
 same-length : tie.Need-same-length Inv-loop μ-loop
-same-length c = (c .before .loop .inv .0)
+same-length c = c .before .loop .inv .0
 
 returns : tie.Need-returns Inv-loop μ-loop
 returns c =
-    let l = (c .before .loop) in
+    let l = c .before .loop in
     let e : l .j ≡ (c .before .before .pair-at .result) = omega (arith, (c .loop-test .left)) in
     to-end _ (l .j) (l .inv .2) (e ∙ (c .before .before .pair-at .ensures))
 

@@ -7,7 +7,7 @@ use Rattle.types.proofs.tables.enter_if.Statement.{statement}
 use Rattle.types.proofs.tables.enter_if.Tie as tie
 
 returns : tie.Need-returns
-returns c = entered-not _ _ (not-true _ (c .if1 .taken)) ((c .before .pre .1))
+returns c = entered-not _ _ (not-true _ (c .if1 .taken)) (c .before .pre .1)
 
 enter-requires : tie.Need-enter-requires
 enter-requires c κs = search needs

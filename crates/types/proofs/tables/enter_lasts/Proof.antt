@@ -27,10 +27,20 @@ is-type-requires : tie.Need-is-type-requires
 is-type-requires c κs = search needs
 
 last-if-requires-3 : tie.Need-last-if-requires-3
-last-if-requires-3 c κs = ap length (c .before .before .before .before .before .before .before .before .before .pre .last .types) ∙ length-last _ _ _
+last-if-requires-3 c κs =
+    let c₉ = c .before .before .before .before .before .before .before .before .before in
+    ap length (c₉ .pre .last .types) ∙ length-last _ _ _
 
 returns : tie.Need-returns
-returns c = lasts-next (c .before .before .before .before .before .before .before .before .before .before .pre .item) (c .before .before .before .before .before .before .before .before .before .before .pre .last) (c .before .before .before .before .before .last-if .ensures) (c .before .before .before .last-if2 .ensures) (c .last-if3 .ensures) (c .before .before .before .before .before .before .before .before .type-trusted .ensures) (c .before .before .before .before .before .before .before .and .ensures) (c .before .is-type .ensures)
+returns c =
+    let c₁ = c .before in
+    let c₃ = c₁ .before .before in
+    let c₅ = c₃ .before .before in
+    let c₇ = c₅ .before .before in
+    let c₈ = c₇ .before in
+    let c₁₀ = c₈ .before .before in
+    lasts-next (c₁₀ .pre .item) (c₁₀ .pre .last) (c₅ .last-if .ensures) (c₃ .last-if2 .ensures) (c .last-if3 .ensures) (c₈ .type-trusted .ensures)
+    (c₇ .and .ensures) (c₁ .is-type .ensures)
 
 pub enter-lasts-spec : {M : Type 1} → statement M
 enter-lasts-spec =
