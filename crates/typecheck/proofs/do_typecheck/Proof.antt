@@ -27,9 +27,10 @@ same-length c = search needs
 
 returns : tie.Need-returns
 returns c = λ given.
-    let args = c .before .before .before .before .before .before .before .before .before .before .before .before .before .before .before .before .args in
-    let pre = c .before .before .before .before .before .before .before .before .before .before .before .before .before .before .before .before .pre in
-    let unsized-rows = c .before .before .before .before .before .before .before .before .before .before .before .before .unsized-rows in
+    let early = c .before .before .before .before .before .before .before .before .before .before .before .before in
+    let args = early .before .before .before .before .args in
+    let pre = early .before .before .before .before .pre in
+    let unsized-rows = early .unsized-rows in
     let lifetime-mut-rows = c .before .before .before .before .before .before .before .before .before .before .before .lifetime-mut-rows in
     let check-types = c .before .before .before .before .before .before .before .before .check-types in
     let check-apis = c .before .before .check-apis in
