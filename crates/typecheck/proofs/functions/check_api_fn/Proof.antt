@@ -1,4 +1,4 @@
--- `typecheck::functions::check_api_fn` meets its contract. Assumes nothing.
+-- `typecheck::functions::check_api_fn` meets its contract: its parts report one after the other. Assumes nothing.
 use borrow.Author.Needs.{needs}
 use mathlib.Core.Path.{_∙_}
 use Rattle.errors.specs.Sink.{also}

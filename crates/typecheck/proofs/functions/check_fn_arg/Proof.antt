@@ -1,4 +1,4 @@
--- `typecheck::functions::check_fn_arg` meets its contract. Assumes nothing.
+-- `typecheck::functions::check_fn_arg` meets its contract: each test that the code makes is that of the definition. Assumes nothing.
 use borrow.Author.Needs.{needs}
 use Rattle.rules.specs.Diagnostics.{when}
 use Rattle.errors.specs.Sink.{taken, left, meant-if, when-taken, when-left, none}

@@ -1,4 +1,4 @@
--- `typecheck::functions::check_fn_receiver` meets its contract. Assumes nothing.
+-- `typecheck::functions::check_fn_receiver` meets its contract: each test that the code makes is that of the definition. Assumes nothing.
 use borrow.Author.Needs.{needs}
 use borrow.Author.Tests.{eq-eqb, ne-eqb}
 use Rattle.rules.specs.Diagnostics.{when}

@@ -1,4 +1,4 @@
--- `typecheck::functions::check_fn_return` meets its contract. Assumes nothing.
+-- `typecheck::functions::check_fn_return` meets its contract: each test that the code makes is that of the definition. Assumes nothing.
 use borrow.Author.Needs.{needs}
 use mathlib.Core.Path.{ap, sym, _∙_}
 use mathlib.Core.Bool.{not}

@@ -1,4 +1,4 @@
--- `typecheck::items::check_api_type` meets its contract. Assumes nothing.
+-- `typecheck::items::check_api_type` meets its contract: its parts report one after the other. Assumes nothing.
 use borrow.Author.Needs.{needs}
 use Rattle.errors.specs.Sink.{also, also-if}
 use Rattle.rules.specs.Check.{check-api-type}

@@ -1,4 +1,4 @@
--- `typecheck::items::check_impl_self` meets its contract. Assumes nothing.
+-- `typecheck::items::check_impl_self` meets its contract: each test that the code makes is that of the definition. Assumes nothing.
 use borrow.Author.Needs.{needs}
 use mathlib.Core.Path.{ap}
 use mathlib.Core.Bool.{not}

@@ -1,4 +1,4 @@
--- `typecheck::items::check_required_trivial` meets its contract. Assumes nothing.
+-- `typecheck::items::check_required_trivial` meets its contract: the test is that of the definition. Assumes nothing.
 use borrow.Author.Needs.{needs}
 use Rattle.errors.specs.Sink.{meant-if}
 use Rattle.typecheck.proofs.items.check_required_trivial.Statement.{statement}

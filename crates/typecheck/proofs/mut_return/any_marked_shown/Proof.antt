@@ -1,4 +1,4 @@
--- `typecheck::mut_return::any_marked_shown` meets its contract. Assumes nothing.
+-- `typecheck::mut_return::any_marked_shown` meets its contract: what its calls ensure, put together. Assumes nothing.
 use borrow.Author.Needs.{needs}
 use mathlib.Core.Path.{refl, sym, ap, _∙_}
 use borrow.Author.Tests.{ne-eqb}

@@ -1,4 +1,4 @@
--- `typecheck::mut_return::check_mut_return_restriction` meets its contract. Assumes nothing.
+-- `typecheck::mut_return::check_mut_return_restriction` meets its contract: each test that the code makes is that of the definition. Assumes nothing.
 use borrow.Author.Needs.{needs}
 use mathlib.Core.Path.{_∙_, ap}
 use mathlib.Core.Bool.{not}

@@ -1,4 +1,4 @@
--- `typecheck::mut_return::returns_mut` meets its contract. Assumes nothing.
+-- `typecheck::mut_return::returns_mut` meets its contract: what its calls ensure, put together. Assumes nothing.
 use borrow.Author.Needs.{needs}
 use Rattle.rules.specs.Check.{returns-mut}
 use Rattle.typecheck.proofs.mut_return.returns_mut.Statement.{statement}

@@ -1,4 +1,4 @@
--- `typecheck_rows::rows::check_type_ptr` meets its contract. Assumes nothing.
+-- `typecheck_rows::rows::check_type_ptr` meets its contract: what its calls ensure, put together. Assumes nothing.
 use borrow.Author.Needs.{needs}
 use Rattle.rules.specs.Check.{check-type-ptr}
 use Rattle.typecheck_rows.proofs.rows.check_type_ptr.Statement.{statement}

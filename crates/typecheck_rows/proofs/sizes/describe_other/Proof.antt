@@ -1,4 +1,4 @@
--- `typecheck_rows::sizes::describe_other` meets its contract. Assumes nothing.
+-- `typecheck_rows::sizes::describe_other` meets its contract: what its calls ensure, put together. Assumes nothing.
 use borrow.Author.Needs.{needs}
 use Rattle.typecheck_rows.specs.Tests.{describeOther}
 use Rattle.typecheck_rows.proofs.sizes.describe_other.Statement.{statement}
