@@ -22,8 +22,8 @@ module _ (w u l n : List ℕ) (t : Types) where
 module _ {s w u l n scratch : List ℕ} {count : ℕ} (given : Given s w u l n scratch count) where
   pub tables-hold : tabled w u l n (typesOf s) ≡ typesOf s
   tables-hold =
-      same-tables w u l n (typesOf s) (given .structs) (given .enums) (given .cxx) (given .rust) (given .aliases) (given .untrusted-types) (given .required-trivial)
-      (given .last-untrusted) (given .last-type) (given .reason-counts)
+      same-tables w u l n (typesOf s) (given .structs) (given .enums) (given .cxx) (given .rust) (given .aliases)
+      (given .untrusted-types) (given .required-trivial) (given .last-untrusted) (given .last-type) (given .reason-counts)
 
   pub untrusted-whole : length u ≡ 256
   unfolding typesOf

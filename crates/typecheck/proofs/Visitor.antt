@@ -27,7 +27,8 @@ module _ (p : ℕ → Bool) where
   any-append [] b = refl
   any-append (x ∷ a) b = by (any-append a b) (p x)
     where
-      by : anyOf p (a ++ b) ≡ (anyOf p a || anyOf p b) → (c : Bool) → elim c as (λ _. Bool) [ true ↦ true | false ↦ anyOf p (a ++ b) ] ≡ (elim c as (λ _. Bool) [ true ↦ true | false ↦ anyOf p a ] || anyOf p b)
+      by : anyOf p (a ++ b) ≡ (anyOf p a || anyOf p b) → (c : Bool)
+          → elim c as (λ _. Bool) [ true ↦ true | false ↦ anyOf p (a ++ b) ] ≡ (elim c as (λ _. Bool) [ true ↦ true | false ↦ anyOf p a ] || anyOf p b)
       by e true = refl
       by e false = e
 
@@ -40,7 +41,8 @@ module _ (p : ℕ → Bool) where
       by false = refl
 
   -- a turn of a loop over a list
-  pub any-turn : (f : ℕ → ℕ) (j : ℕ) {a b c : Bool} → a ≡ anyOf p (over j (λ k. f k ∷ [])) → b ≡ p (f j) → c ≡ (a || b) → c ≡ anyOf p (over (j + 1) (λ k. f k ∷ []))
+  pub any-turn : (f : ℕ → ℕ) (j : ℕ) {a b c : Bool} → a ≡ anyOf p (over j (λ k. f k ∷ [])) → b ≡ p (f j) → c ≡ (a || b)
+      → c ≡ anyOf p (over (j + 1) (λ k. f k ∷ []))
   unfolding over
   any-turn f j q r e = rw (add-one, over, any-append, any-one, ← q, ← r) e
 

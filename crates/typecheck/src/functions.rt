@@ -102,7 +102,8 @@ fn is_opaque_self(sets: &[u64; 28], unpinned: bool, n: u16) -> bool
 }
 
 fn check_fn_receiver(s: &[u8], sets: &[u64; 28], cx: Errors, out: &mut [u64], i: u16) -> Errors
-    ensures { λ e. ⌜ ((t : Types) → Reported (now (out .entry)) cx (check-fn-receiver (now (s .entry)) (holding (now (sets .entry)) t) i) e (now (out .exit))) ⌝ }
+    ensures { λ e. ⌜ ((t : Types) →
+        Reported (now (out .entry)) cx (check-fn-receiver (now (s .entry)) (holding (now (sets .entry)) t) i) e (now (out .exit))) ⌝ }
 {
     let n = self_type(s, i);
     if n == SELF {
@@ -119,7 +120,8 @@ fn check_fn_receiver(s: &[u8], sets: &[u64; 28], cx: Errors, out: &mut [u64], i:
 }
 
 fn check_fn_self_type(s: &[u8], sets: &[u64; 28], cx: Errors, out: &mut [u64], i: u16) -> Errors
-    ensures { λ e. ⌜ ((t : Types) → Reported (now (out .entry)) cx (check-fn-self-type (now (s .entry)) (holding (now (sets .entry)) t) i) e (now (out .exit))) ⌝ }
+    ensures { λ e. ⌜ ((t : Types) →
+        Reported (now (out .entry)) cx (check-fn-self-type (now (s .entry)) (holding (now (sets .entry)) t) i) e (now (out .exit))) ⌝ }
 {
     let n = self_type(s, i);
     if has(sets, ENUMS, n) {
@@ -129,7 +131,8 @@ fn check_fn_self_type(s: &[u8], sets: &[u64; 28], cx: Errors, out: &mut [u64], i
 }
 
 fn check_fn_kind(s: &[u8], sets: &[u64; 28], cx: Errors, out: &mut [u64], i: u16) -> Errors
-    ensures { λ e. ⌜ ((t : Types) → Reported (now (out .entry)) cx (fnKind (now (s .entry)) (holding (now (sets .entry)) t) i) e (now (out .exit))) ⌝ }
+    ensures { λ e. ⌜ ((t : Types) →
+        Reported (now (out .entry)) cx (fnKind (now (s .entry)) (holding (now (sets .entry)) t) i) e (now (out .exit))) ⌝ }
 {
     if is_method(s, i) {
         return check_fn_receiver(s, sets, cx, out, i);
@@ -163,7 +166,8 @@ fn check_fn_arg(
     safe: bool,
 ) -> Errors
     ensures { λ e. ⌜ ((t : Types) → UnsizedRows (now (s .entry)) (holding (now (sets .entry)) t) (now (sizes .entry)) →
-        r ≡ arg (now (s .entry)) i j → r < rows (now (s .entry)) → rust ≡ itemIs (now (s .entry)) RustFunction i → safe ≡ not (functionUnsafe (now (s .entry)) i) →
+        r ≡ arg (now (s .entry)) i j → r < rows (now (s .entry)) → rust ≡ itemIs (now (s .entry)) RustFunction i →
+        safe ≡ not (functionUnsafe (now (s .entry)) i) →
         Reported (now (out .entry)) cx (check-fn-arg (now (s .entry)) (holding (now (sets .entry)) t) i j) e (now (out .exit))) ⌝ }
 {
     if is(s, FN, r) {
@@ -187,7 +191,8 @@ fn check_fn_args(
     i: u16,
 ) -> Errors
     ensures { λ e. ⌜ ((t : Types) → UnsizedRows (now (s .entry)) (holding (now (sets .entry)) t) (now (sizes .entry)) → ArgsBelow (now (s .entry)) i →
-        Reported (now (out .entry)) cx (over (argCount (now (s .entry)) i) (check-fn-arg (now (s .entry)) (holding (now (sets .entry)) t) i)) e (now (out .exit))) ⌝ }
+        Reported (now (out .entry)) cx (over (argCount (now (s .entry)) i) (check-fn-arg (now (s .entry))
+        (holding (now (sets .entry)) t) i)) e (now (out .exit))) ⌝ }
 {
     let rust = item_is(s, RUST_FUNCTION, i);
     let safe = !function_unsafe(s, i);
@@ -212,7 +217,8 @@ fn check_fn_return(
     out: &mut [u64],
     i: u16,
 ) -> Errors
-    ensures { λ e. ⌜ ((t : Types) → UnsizedRows (now (s .entry)) (holding (now (sets .entry)) t) (now (sizes .entry)) → ReturnBelow (now (s .entry)) i →
+    ensures { λ e. ⌜ ((t : Types) → UnsizedRows (now (s .entry)) (holding (now (sets .entry)) t) (now (sizes .entry)) →
+        ReturnBelow (now (s .entry)) i →
         Reported (now (out .entry)) cx (check-fn-return (now (s .entry)) (holding (now (sets .entry)) t) i) e (now (out .exit))) ⌝ }
 {
     if !has_return(s, i) {
@@ -239,7 +245,8 @@ fn check_fn_mut_return(
     out: &mut [u64],
     i: u16,
 ) -> Errors
-    ensures { λ e. ⌜ ((t : Types) → LifetimeMutRows (now (s .entry)) (withLastType (now («last_type» .entry)) t) (now (muts .entry)) → ArgsBelow (now (s .entry)) i →
+    ensures { λ e. ⌜ ((t : Types) → LifetimeMutRows (now (s .entry)) (withLastType (now («last_type» .entry)) t) (now (muts .entry)) →
+        ArgsBelow (now (s .entry)) i →
         length (now («last_type» .entry)) ≡ 256 → SelfNamed (now (s .entry)) i →
         Reported (now (out .entry)) cx (fnMutReturn (now (s .entry)) (withLastType (now («last_type» .entry)) t) i) e (now (out .exit))) ⌝ }
 {
@@ -259,10 +266,12 @@ pub fn check_api_fn(
     out: &mut [u64],
     i: u16,
 ) -> Errors
-    ensures { λ e. ⌜ ((t : Types) → UnsizedRows (now (s .entry)) (holding (now (sets .entry)) (withLastType (now («last_type» .entry)) t)) (now (sizes .entry)) →
+    ensures { λ e. ⌜ ((t : Types) →
+        UnsizedRows (now (s .entry)) (holding (now (sets .entry)) (withLastType (now («last_type» .entry)) t)) (now (sizes .entry)) →
         LifetimeMutRows (now (s .entry)) (holding (now (sets .entry)) (withLastType (now («last_type» .entry)) t)) (now (muts .entry)) →
         ArgsBelow (now (s .entry)) i → ReturnBelow (now (s .entry)) i → length (now («last_type» .entry)) ≡ 256 → SelfNamed (now (s .entry)) i →
-        Reported (now (out .entry)) cx (check-api-fn (now (s .entry)) (holding (now (sets .entry)) (withLastType (now («last_type» .entry)) t)) i) e (now (out .exit))) ⌝ }
+        Reported (now (out .entry)) cx (check-api-fn (now (s .entry)) (holding (now (sets .entry))
+        (withLastType (now («last_type» .entry)) t)) i) e (now (out .exit))) ⌝ }
 {
     let cx = check_fn_generics(s, cx, out, i);
     let cx = check_lifetimes(s, cx, out, i);

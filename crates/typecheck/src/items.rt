@@ -189,8 +189,10 @@ fn check_struct_fields(
     out: &mut [u64],
     i: u16,
 ) -> Errors
-    ensures { λ e. ⌜ ((t : Types) → UnsizedRows (now (s .entry)) (holding (now (sets .entry)) t) (now (sizes .entry)) → FieldsBelow (now (s .entry)) i →
-        Reported (now (out .entry)) cx (over (fieldCount (now (s .entry)) i) (check-struct-field (now (s .entry)) (holding (now (sets .entry)) t) i)) e (now (out .exit))) ⌝ }
+    ensures { λ e. ⌜ ((t : Types) → UnsizedRows (now (s .entry)) (holding (now (sets .entry)) t) (now (sizes .entry)) →
+        FieldsBelow (now (s .entry)) i →
+        Reported (now (out .entry)) cx (over (fieldCount (now (s .entry)) i) (check-struct-field (now (s .entry))
+        (holding (now (sets .entry)) t) i)) e (now (out .exit))) ⌝ }
 {
     let at = rest(s, i);
     let n = pair_at(s, at as usize);
@@ -232,9 +234,11 @@ pub fn check_api_struct(
     out: &mut [u64],
     i: u16,
 ) -> Errors
-    ensures { λ e. ⌜ ((t : Types) → UnsizedRows (now (s .entry)) (holding (now (sets .entry)) (withUntrusted (now (untrusted .entry)) t)) (now (sizes .entry)) →
+    ensures { λ e. ⌜ ((t : Types) →
+        UnsizedRows (now (s .entry)) (holding (now (sets .entry)) (withUntrusted (now (untrusted .entry)) t)) (now (sizes .entry)) →
         FieldsBelow (now (s .entry)) i → itemName (now (s .entry)) i < 256 → length (now (untrusted .entry)) ≡ 256 →
-        Reported (now (out .entry)) cx (check-api-struct (now (s .entry)) (holding (now (sets .entry)) (withUntrusted (now (untrusted .entry)) t)) i) e (now (out .exit))) ⌝ }
+        Reported (now (out .entry)) cx (check-api-struct (now (s .entry)) (holding (now (sets .entry))
+        (withUntrusted (now (untrusted .entry)) t)) i) e (now (out .exit))) ⌝ }
 {
     let cx = check_reserved_name(s, cx, out, i);
     let cx = check_lifetimes(s, cx, out, i);
@@ -349,7 +353,8 @@ pub fn check_api_type(
     i: u16,
 ) -> Errors
     ensures { λ e. ⌜ ((t : Types) → itemName (now (s .entry)) i < 256 →
-        Reported (now (out .entry)) cx (check-api-type (now (s .entry)) (holding (now (sets .entry)) (withReasons (now (reasons .entry)) t)) i) e (now (out .exit))) ⌝ }
+        Reported (now (out .entry)) cx (check-api-type (now (s .entry)) (holding (now (sets .entry))
+        (withReasons (now (reasons .entry)) t)) i) e (now (out .exit))) ⌝ }
 {
     let cx = check_reserved_name(s, cx, out, i);
     let cx = check_lifetimes(s, cx, out, i);

@@ -48,9 +48,12 @@ fn check_types(
     cx: Errors,
     out: &mut [u64],
 ) -> Errors
-    ensures { λ e. ⌜ ((t : Types) (all : List ℕ) → UnsizedRows (now (s .entry)) (holding (now (sets .entry)) t) (now (sizes .entry)) → Accepted (now (s .entry)) →
-        rows ≤ 1024 → ((k : ℕ) → k < rows → pairAt (now (scratch .entry)) (2 * k) ≡ getD all k 0) → ((k : ℕ) → k < rows → getD all k 0 < rowsOf (now (s .entry))) →
-        Reported (now (out .entry)) cx (over rows (λ k. check-type (now (s .entry)) (holding (now (sets .entry)) t) (getD all k 0))) e (now (out .exit))) ⌝ }
+    ensures { λ e. ⌜ ((t : Types) (all : List ℕ) → UnsizedRows (now (s .entry)) (holding (now (sets .entry)) t) (now (sizes .entry)) →
+        Accepted (now (s .entry)) →
+        rows ≤ 1024 → ((k : ℕ) → k < rows → pairAt (now (scratch .entry)) (2 * k) ≡ getD all k 0) → ((k : ℕ) → k < rows →
+        getD all k 0 < rowsOf (now (s .entry))) →
+        Reported (now (out .entry)) cx (over rows (λ k. check-type (now (s .entry)) (holding (now (sets .entry)) t)
+        (getD all k 0))) e (now (out .exit))) ⌝ }
 {
     let n = at_most(rows);
     let mut e = cx;
@@ -78,10 +81,12 @@ fn check_api(
     i: u16,
 ) -> Errors
     ensures { λ e. ⌜ ((t : Types) →
-        Ready (now (s .entry)) (now (sets .entry)) (now (untrusted .entry)) (now («last_type» .entry)) (now (reasons .entry)) (now (sizes .entry)) (now (muts .entry)) t →
+        Ready (now (s .entry)) (now (sets .entry)) (now (untrusted .entry)) (now («last_type» .entry)) (now (reasons .entry)) (now (sizes .entry))
+        (now (muts .entry)) t →
         Accepted (now (s .entry)) → i < items (now (s .entry)) →
         Reported (now (out .entry)) cx
-        (check-api (now (s .entry)) (tabled (now (sets .entry)) (now (untrusted .entry)) (now («last_type» .entry)) (now (reasons .entry)) t) i) e (now (out .exit))) ⌝ }
+        (check-api (now (s .entry)) (tabled (now (sets .entry)) (now (untrusted .entry)) (now («last_type» .entry))
+        (now (reasons .entry)) t) i) e (now (out .exit))) ⌝ }
 {
     match item_kind(s, i) {
         1 => check_api_struct(s, sets, untrusted, sizes, cx, out, i),
@@ -109,10 +114,12 @@ fn check_apis(
     out: &mut [u64],
 ) -> Errors
     ensures { λ e. ⌜ ((t : Types) →
-        Ready (now (s .entry)) (now (sets .entry)) (now (untrusted .entry)) (now («last_type» .entry)) (now (reasons .entry)) (now (sizes .entry)) (now (muts .entry)) t →
+        Ready (now (s .entry)) (now (sets .entry)) (now (untrusted .entry)) (now («last_type» .entry)) (now (reasons .entry)) (now (sizes .entry))
+        (now (muts .entry)) t →
         Accepted (now (s .entry)) →
         Reported (now (out .entry)) cx (over (items (now (s .entry)))
-        (check-api (now (s .entry)) (tabled (now (sets .entry)) (now (untrusted .entry)) (now («last_type» .entry)) (now (reasons .entry)) t))) e (now (out .exit))) ⌝ }
+        (check-api (now (s .entry)) (tabled (now (sets .entry)) (now (untrusted .entry)) (now («last_type» .entry))
+        (now (reasons .entry)) t))) e (now (out .exit))) ⌝ }
 {
     let n = items(s);
     let mut e = cx;
@@ -150,7 +157,8 @@ pub fn do_typecheck(
     out: &mut [u64],
 ) -> Errors
     requires { ⌜ Accepted (now s) ⌝ }
-    ensures { λ e. ⌜ (Given (now (s .entry)) (now (sets .entry)) (now (untrusted .entry)) (now («last_type» .entry)) (now (reasons .entry)) (now (scratch .entry)) rows →
+    ensures { λ e. ⌜ (Given (now (s .entry)) (now (sets .entry)) (now (untrusted .entry)) (now («last_type» .entry)) (now (reasons .entry))
+        (now (scratch .entry)) rows →
         Reported (now (out .entry)) cx (checks (now (s .entry)) (typesOf (now (s .entry)))) e (now (out .exit))) ⌝ }
 {
     let sizes = unsized_rows(s, sets);

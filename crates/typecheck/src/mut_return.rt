@@ -188,9 +188,11 @@ pub fn check_mut_return_restriction(
     out: &mut [u64],
     i: u16,
 ) -> Errors
-    ensures { λ e. ⌜ ((t : Types) → LifetimeMutRows (now (s .entry)) (withLastType (now («last_type» .entry)) t) (now (muts .entry)) → ArgsBelow (now (s .entry)) i →
+    ensures { λ e. ⌜ ((t : Types) → LifetimeMutRows (now (s .entry)) (withLastType (now («last_type» .entry)) t) (now (muts .entry)) →
+        ArgsBelow (now (s .entry)) i →
         length (now («last_type» .entry)) ≡ 256 → SelfNamed (now (s .entry)) i →
-        Reported (now (out .entry)) cx (check-mut-return-restriction (now (s .entry)) (withLastType (now («last_type» .entry)) t) i) e (now (out .exit))) ⌝ }
+        Reported (now (out .entry)) cx (check-mut-return-restriction (now (s .entry))
+        (withLastType (now («last_type» .entry)) t) i) e (now (out .exit))) ⌝ }
 {
     if function_unsafe(s, i) {
         return cx;

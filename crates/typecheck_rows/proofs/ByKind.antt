@@ -15,7 +15,8 @@ module _ (s : List ℕ) (t : Types) (r : ℕ) where
   by-kind e = ap (λ (k : ℕ). getD (type-checks s t) k (no-check s t) r) e
 
   -- kinds 9 and 13, and none beyond
-  pub nothing : (k : ℕ) → (k ≡ 0 → ⊥) → (k ≡ 1 → ⊥) → (k ≡ 2 → ⊥) → (k ≡ 3 → ⊥) → (k ≡ 4 → ⊥) → (k ≡ 5 → ⊥) → (k ≡ 6 → ⊥) → (k ≡ 7 → ⊥) → (k ≡ 8 → ⊥) → (k ≡ 10 → ⊥) → (k ≡ 11 → ⊥) → (k ≡ 12 → ⊥)
+  pub nothing : (k : ℕ) → (k ≡ 0 → ⊥) → (k ≡ 1 → ⊥) → (k ≡ 2 → ⊥) → (k ≡ 3 → ⊥) → (k ≡ 4 → ⊥) → (k ≡ 5 → ⊥) → (k ≡ 6 → ⊥)
+      → (k ≡ 7 → ⊥) → (k ≡ 8 → ⊥) → (k ≡ 10 → ⊥) → (k ≡ 11 → ⊥) → (k ≡ 12 → ⊥)
       → [] ≡ getD (type-checks s t) k (no-check s t) r
   unfolding type-checks no-check
   nothing zero h0 h1 h2 h3 h4 h5 h6 h7 h8 h10 h11 h12 = absurd (h0 refl)

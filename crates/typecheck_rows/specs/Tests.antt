@@ -2,11 +2,11 @@
 -- required-trivial.
 -- Assumes nothing: these are definitions.
 use Prim.Native.Nat.{ℕ}
-use mathlib.Core.List.{List}
+use mathlib.Core.List.{List, _++_}
 use mathlib.Core.Bool.{Bool, not, _&&_, _||_}
 use lib.Dec.{eqb}
 use Rattle.rules.specs.Names.{_∋_, isAtom, nameBool, nameChar, nameCxxString, nameRustString}
-use Rattle.rules.specs.declared.Place.the-variants.{G}
+use Rattle.rules.specs.declared.Place.the-variants.{R, G}
 use Rattle.rules.specs.declared.Diagnostic.{Diagnostic}
 use Rattle.rules.specs.Base.{if_then_else_}
 use Rattle.rules.specs.Diagnostics.{say, when}
@@ -60,6 +60,10 @@ module _ (s : List ℕ) (r : ℕ) where
 
   abbrev pub unpinned : Bool
   unpinned = flag1 (rowFlags s r) && not (flag2 (rowFlags s r))
+
+  -- two messages of what it points to
+  abbrev pub pointee : (nested unsupported : ℕ) → List Diagnostic
+  pointee a b = when (is s Ref (inner s r)) (say a (R r)) ++ when (is s Fn (inner s r) || is s Void (inner s r)) (say b (R r))
 
   -- message 26 at argument j
   abbrev pub pointerArg : (j : ℕ) → List Diagnostic

@@ -19,7 +19,7 @@ ghost use Rattle.rules.specs.Check.{
 };
 ghost use Rattle.errors.specs.Sink.{Reported};
 ghost use Rattle.typecheck_rows.specs.Tables.{holding, UnsizedRows};
-ghost use Rattle.typecheck_rows.specs.Tests.{unsupported, opaque, unpinned, sliceElement, opaqueElement, pointerArg};
+ghost use Rattle.typecheck_rows.specs.Tests.{unsupported, opaque, unpinned, pointee, sliceElement, opaqueElement, pointerArg};
 use crate::kinds::ALIASES;
 use crate::kinds::CXX;
 use crate::kinds::CXX_STRING;
@@ -71,7 +71,8 @@ fn is_unsupported(sets: &[u64; 28], n: u16) -> bool
 }
 
 fn check_type_ident(s: &[u8], sets: &[u64; 28], cx: Errors, out: &mut [u64], r: u16) -> Errors
-    ensures { λ e. ⌜ ((t : Types) → Reported (now (out .entry)) cx (check-type-ident (now (s .entry)) (holding (now (sets .entry)) t) r) e (now (out .exit))) ⌝ }
+    ensures { λ e. ⌜ ((t : Types) →
+        Reported (now (out .entry)) cx (check-type-ident (now (s .entry)) (holding (now (sets .entry)) t) r) e (now (out .exit))) ⌝ }
 {
     row_error(cx, out, is_unsupported(sets, row_name(s, r)), 3, r, 0)
 }
@@ -108,26 +109,41 @@ fn is_fn_or_void_target(s: &[u8], r: u16) -> bool
     or(target_is(s, FN, r), target_is(s, VOID, r))
 }
 
+// A reference or a pointer to a reference, a function or nothing: two messages for both.
+fn check_pointee(
+    s: &[u8],
+    cx: Errors,
+    out: &mut [u64],
+    r: u16,
+    nested: u8,
+    unsupported: u8,
+) -> Errors
+    ensures { λ e. ⌜ Reported (now (out .entry)) cx (pointee (now (s .entry)) r nested unsupported) e (now (out .exit)) ⌝ }
+{
+    let cx = row_error(cx, out, target_is(s, REF, r), nested, r, 0);
+    row_error(cx, out, is_fn_or_void_target(s, r), unsupported, r, 0)
+}
+
 fn check_type_ref(s: &[u8], sets: &[u64; 28], cx: Errors, out: &mut [u64], r: u16) -> Errors
-    ensures { λ e. ⌜ ((t : Types) → Reported (now (out .entry)) cx (check-type-ref (now (s .entry)) (holding (now (sets .entry)) t) r) e (now (out .exit))) ⌝ }
+    ensures { λ e. ⌜ ((t : Types) →
+        Reported (now (out .entry)) cx (check-type-ref (now (s .entry)) (holding (now (sets .entry)) t) r) e (now (out .exit))) ⌝ }
 {
     let pin = and(is_unpinned(s, r), requires_pin(s, sets, inner(s, r)));
     let cx = row_error(cx, out, pin, 18, r, 0);
-    let cx = row_error(cx, out, target_is(s, REF, r), 19, r, 0);
-    row_error(cx, out, is_fn_or_void_target(s, r), 20, r, 0)
+    check_pointee(s, cx, out, r, 19, 20)
 }
 
 fn check_type_ptr(s: &[u8], cx: Errors, out: &mut [u64], r: u16) -> Errors
     ensures { λ e. ⌜ ((t : Types) → Reported (now (out .entry)) cx (check-type-ptr (now (s .entry)) t r) e (now (out .exit))) ⌝ }
 {
-    let cx = row_error(cx, out, target_is(s, REF, r), 21, r, 0);
-    row_error(cx, out, is_fn_or_void_target(s, r), 22, r, 0)
+    check_pointee(s, cx, out, r, 21, 22)
 }
 
 // ## SliceRef and Array
 
 fn is_slice_element(s: &[u8], sets: &[u64; 28], sizes: &[u8; 1024], r: u16) -> bool
-    ensures { λ x. ⌜ ((t : Types) → UnsizedRows (now (s .entry)) (holding (now (sets .entry)) t) (now (sizes .entry)) → inner (now (s .entry)) r < rows (now (s .entry)) → x ≡ sliceElement (now (s .entry)) r (holding (now (sets .entry)) t)) ⌝ }
+    ensures { λ x. ⌜ ((t : Types) → UnsizedRows (now (s .entry)) (holding (now (sets .entry)) t) (now (sizes .entry)) →
+        inner (now (s .entry)) r < rows (now (s .entry)) → x ≡ sliceElement (now (s .entry)) r (holding (now (sets .entry)) t)) ⌝ }
 {
     let n = target_name(s, r);
     let named = or(has(sets, RUST, n), has(sets, ALIASES, n));
@@ -160,7 +176,9 @@ fn check_type_slice_ref(
     out: &mut [u64],
     r: u16,
 ) -> Errors
-    ensures { λ e. ⌜ ((t : Types) → UnsizedRows (now (s .entry)) (holding (now (sets .entry)) t) (now (sizes .entry)) → inner (now (s .entry)) r < rows (now (s .entry)) → Reported (now (out .entry)) cx (check-type-slice-ref (now (s .entry)) (holding (now (sets .entry)) t) r) e (now (out .exit))) ⌝ }
+    ensures { λ e. ⌜ ((t : Types) → UnsizedRows (now (s .entry)) (holding (now (sets .entry)) t) (now (sizes .entry)) →
+        inner (now (s .entry)) r < rows (now (s .entry)) →
+        Reported (now (out .entry)) cx (check-type-slice-ref (now (s .entry)) (holding (now (sets .entry)) t) r) e (now (out .exit))) ⌝ }
 {
     let supported = is_slice_element(s, sets, sizes, r);
     let opaque = is_opaque_element(s, sets, r);
@@ -168,7 +186,8 @@ fn check_type_slice_ref(
 }
 
 fn check_type_array(s: &[u8], sizes: &[u8; 1024], cx: Errors, out: &mut [u64], r: u16) -> Errors
-    ensures { λ e. ⌜ ((t : Types) → UnsizedRows (now (s .entry)) t (now (sizes .entry)) → inner (now (s .entry)) r < rows (now (s .entry)) → Reported (now (out .entry)) cx (check-type-array (now (s .entry)) t r) e (now (out .exit))) ⌝ }
+    ensures { λ e. ⌜ ((t : Types) → UnsizedRows (now (s .entry)) t (now (sizes .entry)) → inner (now (s .entry)) r < rows (now (s .entry)) →
+        Reported (now (out .entry)) cx (check-type-array (now (s .entry)) t r) e (now (out .exit))) ⌝ }
 {
     row_error(cx, out, is_unsized(sizes, inner(s, r)), 24, r, 0)
 }
@@ -208,7 +227,9 @@ pub fn check_type(
     out: &mut [u64],
     r: u16,
 ) -> Errors
-    ensures { λ e. ⌜ ((t : Types) → UnsizedRows (now (s .entry)) (holding (now (sets .entry)) t) (now (sizes .entry)) → Accepted (now (s .entry)) → r < rows (now (s .entry)) → Reported (now (out .entry)) cx (check-type (now (s .entry)) (holding (now (sets .entry)) t) r) e (now (out .exit))) ⌝ }
+    ensures { λ e. ⌜ ((t : Types) → UnsizedRows (now (s .entry)) (holding (now (sets .entry)) t) (now (sizes .entry)) → Accepted (now (s .entry)) →
+        r < rows (now (s .entry)) →
+        Reported (now (out .entry)) cx (check-type (now (s .entry)) (holding (now (sets .entry)) t) r) e (now (out .exit))) ⌝ }
 {
     match kind(s, r) {
         0 => check_type_ident(s, sets, cx, out, r),

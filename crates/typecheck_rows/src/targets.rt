@@ -93,7 +93,8 @@ fn is_box_target(s: &[u8], r: u16) -> bool
 }
 
 pub fn check_type_box(s: &[u8], sets: &[u64; 28], cx: Errors, out: &mut [u64], r: u16) -> Errors
-    ensures { λ e. ⌜ ((t : Types) → Reported (now (out .entry)) cx (check-type-box (now (s .entry)) (holding (now (sets .entry)) t) r) e (now (out .exit))) ⌝ }
+    ensures { λ e. ⌜ ((t : Types) →
+        Reported (now (out .entry)) cx (check-type-box (now (s .entry)) (holding (now (sets .entry)) t) r) e (now (out .exit))) ⌝ }
 {
     let cx = row_error(cx, out, is_cxx_target(s, sets, r), 4, r, 0);
     row_error(cx, out, !is_box_target(s, r), 5, r, 0)
@@ -114,7 +115,8 @@ pub fn check_type_rust_vec(
     out: &mut [u64],
     r: u16,
 ) -> Errors
-    ensures { λ e. ⌜ ((t : Types) → Reported (now (out .entry)) cx (check-type-rust-vec (now (s .entry)) (holding (now (sets .entry)) t) r) e (now (out .exit))) ⌝ }
+    ensures { λ e. ⌜ ((t : Types) →
+        Reported (now (out .entry)) cx (check-type-rust-vec (now (s .entry)) (holding (now (sets .entry)) t) r) e (now (out .exit))) ⌝ }
 {
     if is_cxx_target(s, sets, r) {
         return row_error(cx, out, true, 6, r, 0);
@@ -125,8 +127,9 @@ pub fn check_type_rust_vec(
     if target_is(s, STR, r) {
         return cx;
     }
-    if target_is(s, RUST_BOX, r) {
-        return check_type_box(s, sets, cx, out, inner(s, r));
+    let inside = inner(s, r);
+    if is(s, RUST_BOX, inside) {
+        return check_type_box(s, sets, cx, out, inside);
     }
     row_error(cx, out, true, 7, r, 0)
 }
@@ -147,7 +150,8 @@ pub fn check_type_unique_ptr(
     out: &mut [u64],
     r: u16,
 ) -> Errors
-    ensures { λ e. ⌜ ((t : Types) → Reported (now (out .entry)) cx (check-type-unique-ptr (now (s .entry)) (holding (now (sets .entry)) t) r) e (now (out .exit))) ⌝ }
+    ensures { λ e. ⌜ ((t : Types) →
+        Reported (now (out .entry)) cx (check-type-unique-ptr (now (s .entry)) (holding (now (sets .entry)) t) r) e (now (out .exit))) ⌝ }
 {
     if is_rust_target(s, sets, r) {
         return row_error(cx, out, true, 8, r, 0);
@@ -167,12 +171,14 @@ pub fn check_type_shared_ptr(
     out: &mut [u64],
     r: u16,
 ) -> Errors
-    ensures { λ e. ⌜ ((t : Types) → Reported (now (out .entry)) cx (check-type-shared-ptr (now (s .entry)) (holding (now (sets .entry)) t) r) e (now (out .exit))) ⌝ }
+    ensures { λ e. ⌜ ((t : Types) →
+        Reported (now (out .entry)) cx (check-type-shared-ptr (now (s .entry)) (holding (now (sets .entry)) t) r) e (now (out .exit))) ⌝ }
 {
     if is_rust_target(s, sets, r) {
         return row_error(cx, out, true, 10, r, 0);
     }
-    if is_other_target(s, r, CHAR, RUST_STRING) {
+    let shared = is_other_target(s, r, CHAR, RUST_STRING);
+    if shared {
         return cx;
     }
     if target_is(s, CXX_VECTOR, r) {
@@ -188,12 +194,14 @@ pub fn check_type_weak_ptr(
     out: &mut [u64],
     r: u16,
 ) -> Errors
-    ensures { λ e. ⌜ ((t : Types) → Reported (now (out .entry)) cx (check-type-weak-ptr (now (s .entry)) (holding (now (sets .entry)) t) r) e (now (out .exit))) ⌝ }
+    ensures { λ e. ⌜ ((t : Types) →
+        Reported (now (out .entry)) cx (check-type-weak-ptr (now (s .entry)) (holding (now (sets .entry)) t) r) e (now (out .exit))) ⌝ }
 {
     if is_rust_target(s, sets, r) {
         return row_error(cx, out, true, 13, r, 0);
     }
-    if is_other_target(s, r, CHAR, RUST_STRING) {
+    let weak = is_other_target(s, r, CHAR, RUST_STRING);
+    if weak {
         return cx;
     }
     if target_is(s, CXX_VECTOR, r) {
@@ -205,7 +213,8 @@ pub fn check_type_weak_ptr(
 // ## CxxVector
 
 fn is_vector_element(s: &[u8], r: u16) -> bool
-    ensures { λ x. ⌜ x ≡ (plain (now (s .entry)) r && not (eqb (target (now (s .entry)) r) nameChar || eqb (target (now (s .entry)) r) nameBool || eqb (target (now (s .entry)) r) nameRustString)) ⌝ }
+    ensures { λ x. ⌜ x ≡ (plain (now (s .entry)) r && not (eqb (target (now (s .entry)) r) nameChar || eqb (target (now (s .entry)) r) nameBool ||
+        eqb (target (now (s .entry)) r) nameRustString)) ⌝ }
 {
     let n = target_name(s, r);
     and(
@@ -221,7 +230,8 @@ pub fn check_type_cxx_vector(
     out: &mut [u64],
     r: u16,
 ) -> Errors
-    ensures { λ e. ⌜ ((t : Types) → Reported (now (out .entry)) cx (check-type-cxx-vector (now (s .entry)) (holding (now (sets .entry)) t) r) e (now (out .exit))) ⌝ }
+    ensures { λ e. ⌜ ((t : Types) →
+        Reported (now (out .entry)) cx (check-type-cxx-vector (now (s .entry)) (holding (now (sets .entry)) t) r) e (now (out .exit))) ⌝ }
 {
     if is_rust_target(s, sets, r) {
         return row_error(cx, out, true, 16, r, 0);

@@ -45,7 +45,9 @@ returns c = λ t q acc l.
     let item-kind = c .before .before .before .before .before .item-kind in
     let match = c .before .before .before .before .match in
     let check-api-struct = c .before .before .check-api-struct in
-    meant (check-api-struct .ensures (withLastType _ (withReasons _ t)) (q .sizes-right) (fields-below _ acc _ l (sym (item-kind .ensures) ∙ match .keys1)) (named _ acc _ l (sym (item-kind .ensures) ∙ match .keys1) refl) (q .untrusted-whole)) (by-kind _ (tabled _ _ _ _ t) _ (sym (match .keys1) ∙ item-kind .ensures))
+    meant (check-api-struct .ensures (withLastType _ (withReasons _ t)) (q .sizes-right)
+    (fields-below _ acc _ l (sym (item-kind .ensures) ∙ match .keys1)) (named _ acc _ l (sym (item-kind .ensures) ∙ match .keys1) refl)
+    (q .untrusted-whole)) (by-kind _ (tabled _ _ _ _ t) _ (sym (match .keys1) ∙ item-kind .ensures))
 
 same-length-2 : tie.Need-same-length-2
 same-length-2 c = search needs
@@ -67,7 +69,8 @@ returns-3 c = λ t q acc l.
     let item-kind = c .before .before .before .before .before .item-kind in
     let match = c .before .before .before .before .match in
     let check-api-type = c .before .before .check-api-type in
-    meant (check-api-type .ensures (withUntrusted _ (withLastType _ t)) (named _ acc _ l (sym (item-kind .ensures) ∙ match .keys3) refl)) (by-kind _ (tabled _ _ _ _ t) _ (sym (match .keys3) ∙ item-kind .ensures))
+    meant (check-api-type .ensures (withUntrusted _ (withLastType _ t)) (named _ acc _ l (sym (item-kind .ensures) ∙ match .keys3) refl))
+    (by-kind _ (tabled _ _ _ _ t) _ (sym (match .keys3) ∙ item-kind .ensures))
 
 same-length-4 : tie.Need-same-length-4
 same-length-4 c = search needs
@@ -78,7 +81,8 @@ returns-4 c = λ t q acc l.
     let item-kind = c .before .before .before .before .before .item-kind in
     let match = c .before .before .before .before .match in
     let check-api-type2 = c .before .before .check-api-type2 in
-    meant (check-api-type2 .ensures (withUntrusted _ (withLastType _ t)) (named _ acc _ l (sym (item-kind .ensures) ∙ match .keys4) refl)) (by-kind _ (tabled _ _ _ _ t) _ (sym (match .keys4) ∙ item-kind .ensures))
+    meant (check-api-type2 .ensures (withUntrusted _ (withLastType _ t)) (named _ acc _ l (sym (item-kind .ensures) ∙ match .keys4) refl))
+    (by-kind _ (tabled _ _ _ _ t) _ (sym (match .keys4) ∙ item-kind .ensures))
 
 same-length-5 : tie.Need-same-length-5
 same-length-5 c = search needs
@@ -90,7 +94,8 @@ returns-5 c = λ t q acc l.
     let match = c .before .before .before .before .match in
     let check-api-fn = c .before .before .check-api-fn in
     let f = function-of _ acc _ l (sym (item-kind .ensures) ∙ match .keys5) refl in
-    meant (check-api-fn .ensures (withUntrusted _ (withReasons _ t)) (q .sizes-right) (q .muts-right) (f .arg-below) (return-below _ acc _ l f) (q .last-whole) (self-named _ acc _ l f)) (by-kind _ (tabled _ _ _ _ t) _ (sym (match .keys5) ∙ item-kind .ensures))
+    meant (check-api-fn .ensures (withUntrusted _ (withReasons _ t)) (q .sizes-right) (q .muts-right) (f .arg-below) (return-below _ acc _ l f)
+    (q .last-whole) (self-named _ acc _ l f)) (by-kind _ (tabled _ _ _ _ t) _ (sym (match .keys5) ∙ item-kind .ensures))
 
 same-length-6 : tie.Need-same-length-6
 same-length-6 c = search needs
@@ -102,7 +107,8 @@ returns-6 c = λ t q acc l.
     let match = c .before .before .before .before .match in
     let check-api-fn2 = c .before .before .check-api-fn2 in
     let f = function-of _ acc _ l (sym (item-kind .ensures) ∙ match .keys6) refl in
-    meant (check-api-fn2 .ensures (withUntrusted _ (withReasons _ t)) (q .sizes-right) (q .muts-right) (f .arg-below) (return-below _ acc _ l f) (q .last-whole) (self-named _ acc _ l f)) (by-kind _ (tabled _ _ _ _ t) _ (sym (match .keys6) ∙ item-kind .ensures))
+    meant (check-api-fn2 .ensures (withUntrusted _ (withReasons _ t)) (q .sizes-right) (q .muts-right) (f .arg-below) (return-below _ acc _ l f)
+    (q .last-whole) (self-named _ acc _ l f)) (by-kind _ (tabled _ _ _ _ t) _ (sym (match .keys6) ∙ item-kind .ensures))
 
 same-length-7 : tie.Need-same-length-7
 same-length-7 c = search needs
@@ -129,7 +135,9 @@ returns-8 c = λ t q acc l.
 returns-9 : tie.Need-returns-9
 returns-9 c = λ t q acc l.
     let item-kind = c .before .item-kind in
-    meant (none _ _) (nothing _ (tabled _ _ _ _ t) _ _ (c .match .rest .0 .0 .0 .0 .0 .0 .0 .1) (c .match .rest .0 .0 .0 .0 .0 .0 .1) (c .match .rest .0 .0 .0 .0 .0 .1) (c .match .rest .0 .0 .0 .0 .1) (c .match .rest .0 .0 .0 .1) (c .match .rest .0 .0 .1) (c .match .rest .0 .1) (c .match .rest .1) ∙ by-kind _ (tabled _ _ _ _ t) _ (item-kind .ensures))
+    meant (none _ _) (nothing _ (tabled _ _ _ _ t) _ _ (c .match .rest .0 .0 .0 .0 .0 .0 .0 .1) (c .match .rest .0 .0 .0 .0 .0 .0 .1)
+    (c .match .rest .0 .0 .0 .0 .0 .1) (c .match .rest .0 .0 .0 .0 .1) (c .match .rest .0 .0 .0 .1) (c .match .rest .0 .0 .1) (c .match .rest .0 .1)
+    (c .match .rest .1) ∙ by-kind _ (tabled _ _ _ _ t) _ (item-kind .ensures))
 
 pub check-api-spec : {M : Type 1} → statement M
 check-api-spec =

@@ -15,7 +15,8 @@ use Rattle.typecheck.proofs.check_apis.Statement.{statement}
 use Rattle.typecheck.proofs.check_apis.Tie as tie
 
 abbrev Inv-loop : tie.InvT-loop
-Inv-loop s sets untrusted last-type reasons sizes muts out₀ n e₀ j₀ out e j = (length out ≡ length out₀) × (j ≤ n) × ((t : Types) → Ready s sets untrusted last-type reasons sizes muts t → Accepted s
+Inv-loop s sets untrusted last-type reasons sizes muts out₀ n e₀ j₀ out e j = (length out ≡ length out₀) × (j ≤ n) ×
+    ((t : Types) → Ready s sets untrusted last-type reasons sizes muts t → Accepted s
     → Reported out₀ e₀ (over j (check-api s (tabled sets untrusted last-type reasons t))) e out)
 
 abbrev μ-loop : tie.MeasureT-loop

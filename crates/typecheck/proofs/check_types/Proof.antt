@@ -16,7 +16,8 @@ use Rattle.typecheck.proofs.check_types.Statement.{statement}
 use Rattle.typecheck.proofs.check_types.Tie as tie
 
 abbrev Inv-loop : tie.InvT-loop
-Inv-loop s sets sizes scratch rows out₀ n e₀ j₀ out e j = (length out ≡ length out₀) × (j ≤ n) × ((t : Types) (all : List ℕ) → UnsizedRows s (holding sets t) sizes → Accepted s → rows ≤ 1024
+Inv-loop s sets sizes scratch rows out₀ n e₀ j₀ out e j = (length out ≡ length out₀) × (j ≤ n) ×
+    ((t : Types) (all : List ℕ) → UnsizedRows s (holding sets t) sizes → Accepted s → rows ≤ 1024
     → ((k : ℕ) → k < rows → pairAt scratch (2 * k) ≡ getD all k 0) → ((k : ℕ) → k < rows → getD all k 0 < rowsOf s)
     → Reported out₀ e₀ (over j (λ k. check-type s (holding sets t) (getD all k 0))) e out)
 

@@ -27,24 +27,23 @@ same-length c = search needs
 
 returns : tie.Need-returns
 returns c = λ given.
-    let args = c .before .before .before .before .before .before .before .before .before .before .before .before .before .before .before .before .args in
-    let pre = c .before .before .before .before .before .before .before .before .before .before .before .before .before .before .before .before .pre in
-    let unsized-rows = c .before .before .before .before .before .before .before .before .before .before .before .before .unsized-rows in
+    let early = c .before .before .before .before .before .before .before .before .before .before .before .before in
+    let args = early .before .before .before .before .args in
+    let pre = early .before .before .before .before .pre in
+    let unsized-rows = early .unsized-rows in
     let lifetime-mut-rows = c .before .before .before .before .before .before .before .before .before .before .before .lifetime-mut-rows in
     let check-types = c .before .before .before .before .before .before .before .before .check-types in
     let check-apis = c .before .before .check-apis in
-    let a = args in
-    let acc = pre in
-    let t = typesOf (a .s .now) in
-    let over-names = withUntrusted (a .untrusted .now) (withLastType (a .last-type .now) (withReasons (a .reasons .now) t)) in
-    let rows = check-types .ensures over-names (t .all) (unsized-rows .ensures over-names) acc (few given acc) (given .row) (below given acc) in
+    let t = typesOf (args .s .now) in
+    let over-names = withUntrusted (args .untrusted .now) (withLastType (args .last-type .now) (withReasons (args .reasons .now) t)) in
+    let rows = check-types .ensures over-names (t .all) (unsized-rows .ensures over-names) pre (few given pre) (given .row) (below given pre) in
     let items = check-apis .ensures t (record {
       untrusted-whole = untrusted-whole given;
       last-whole = last-whole given;
       sizes-right = unsized-rows .ensures over-names;
-      muts-right = lifetime-mut-rows .ensures (holding (a .sets .now) over-names) (last-whole given);
-    }) acc in
-    meant (also (whole _ rows (given .count)) items) (ap (checks (a .s .now)) (tables-hold given))
+      muts-right = lifetime-mut-rows .ensures (holding (args .sets .now) over-names) (last-whole given);
+    }) pre in
+    meant (also (whole _ rows (given .count)) items) (ap (checks (args .s .now)) (tables-hold given))
 
 pub do-typecheck-spec : {M : Type 1} → statement M
 do-typecheck-spec =

@@ -1,4 +1,4 @@
--- `typecheck::functions::arg_at` meets its contract. Assumes nothing.
+-- `typecheck::functions::arg_at` meets its contract: what its calls ensure, put together. Assumes nothing.
 use borrow.Author.Needs.{needs}
 use Rattle.rules.specs.View.{entry}
 use Rattle.typecheck.proofs.functions.arg_at.Statement.{statement}

@@ -1,4 +1,4 @@
--- `typecheck::functions::check_api_fn` meets its contract. Assumes nothing.
+-- `typecheck::functions::check_api_fn` meets its contract: its parts report one after the other. Assumes nothing.
 use borrow.Author.Needs.{needs}
 use mathlib.Core.Path.{_∙_}
 use Rattle.errors.specs.Sink.{also}
@@ -28,9 +28,10 @@ check-fn-mut-return-requires c κs = search needs
 
 same-length : tie.Need-same-length
 same-length c =
-    let check-fn-generics = c .before .before .before .before .before .before .before .before .before .before .before .before .before .before .before .before .before .before .before .before .before .before .check-fn-generics in
-    let check-lifetimes = c .before .before .before .before .before .before .before .before .before .before .before .before .before .before .before .before .before .before .check-lifetimes in
-    let check-fn-kind = c .before .before .before .before .before .before .before .before .before .before .before .before .before .before .check-fn-kind in
+    let early = c .before .before .before .before .before .before .before .before .before .before .before .before in
+    let check-fn-generics = early .before .before .before .before .before .before .before .before .before .before .check-fn-generics in
+    let check-lifetimes = early .before .before .before .before .before .before .check-lifetimes in
+    let check-fn-kind = early .before .before .check-fn-kind in
     let check-fn-args = c .before .before .before .before .before .before .before .before .before .before .check-fn-args in
     let check-fn-return = c .before .before .before .before .before .before .check-fn-return in
     let check-fn-mut-return = c .before .before .check-fn-mut-return in
@@ -40,10 +41,11 @@ same-length c =
 returns : tie.Need-returns
 unfolding check-api-fn
 returns c = λ t u m a r l n.
-    let args = c .before .before .before .before .before .before .before .before .before .before .before .before .before .before .before .before .before .before .before .before .before .before .before .before .before .before .args in
-    let check-fn-generics = c .before .before .before .before .before .before .before .before .before .before .before .before .before .before .before .before .before .before .before .before .before .before .check-fn-generics in
-    let check-lifetimes = c .before .before .before .before .before .before .before .before .before .before .before .before .before .before .before .before .before .before .check-lifetimes in
-    let check-fn-kind = c .before .before .before .before .before .before .before .before .before .before .before .before .before .before .check-fn-kind in
+    let early = c .before .before .before .before .before .before .before .before .before .before .before .before in
+    let args = early .before .before .before .before .before .before .before .before .before .before .before .before .before .before .args in
+    let check-fn-generics = early .before .before .before .before .before .before .before .before .before .before .check-fn-generics in
+    let check-lifetimes = early .before .before .before .before .before .before .check-lifetimes in
+    let check-fn-kind = early .before .before .check-fn-kind in
     let check-fn-args = c .before .before .before .before .before .before .before .before .before .before .check-fn-args in
     let check-fn-return = c .before .before .before .before .before .before .check-fn-return in
     let check-fn-mut-return = c .before .before .check-fn-mut-return in

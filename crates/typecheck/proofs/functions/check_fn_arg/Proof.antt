@@ -1,4 +1,4 @@
--- `typecheck::functions::check_fn_arg` meets its contract. Assumes nothing.
+-- `typecheck::functions::check_fn_arg` meets its contract: each test that the code makes is that of the definition. Assumes nothing.
 use borrow.Author.Needs.{needs}
 use Rattle.rules.specs.Diagnostics.{when}
 use Rattle.errors.specs.Sink.{taken, left, meant-if, when-taken, when-left, none}
@@ -78,7 +78,8 @@ returns-4 c = λ t u q l b a.
     let is2 = c .before .before .before .is2 in
     let if2 = c .before .before .if2 in
     let is-unsized = c .before .is-unsized in
-    left _ _ (if1 .left) (left _ _ (if2 .left) (when-left _ (c .if3 .left) (none _ _) (rw q at (is-unsized .ensures _ _ u l))) (rw q at (is2 .ensures))) (rw q at (is .ensures))
+    left _ _ (if1 .left) (left _ _ (if2 .left) (when-left _ (c .if3 .left) (none _ _) (rw q at (is-unsized .ensures _ _ u l)))
+    (rw q at (is2 .ensures))) (rw q at (is .ensures))
 
 pub check-fn-arg-spec : {M : Type 1} → statement M
 check-fn-arg-spec =

@@ -18,7 +18,8 @@ use Rattle.typecheck.proofs.functions.check_fn_args.Statement.{statemen
 use Rattle.typecheck.proofs.functions.check_fn_args.Tie as tie
 
 abbrev Inv-loop : tie.InvT-loop
-Inv-loop s sets sizes out₀ i rust safe place n e₀ j₀ out e j = (length out ≡ length out₀) × (j ≤ n) × ((t : Types) → UnsizedRows s (holding sets t) sizes → ArgsBelow s i → Reported out₀ e₀ (over j (check-fn-arg s (holding sets t) i)) e out)
+Inv-loop s sets sizes out₀ i rust safe place n e₀ j₀ out e j = (length out ≡ length out₀) × (j ≤ n) ×
+    ((t : Types) → UnsizedRows s (holding sets t) sizes → ArgsBelow s i → Reported out₀ e₀ (over j (check-fn-arg s (holding sets t) i)) e out)
 
 abbrev μ-loop : tie.MeasureT-loop
 μ-loop s sets sizes out₀ i rust safe place n e₀ j₀ out e j = n - j
@@ -68,8 +69,14 @@ loop-again c =
     let loop-test = c .before .before .before .before .before .loop-test in
     let arg-at = c .before .before .before .before .arg-at in
     let check-fn-arg = c .before .before .check-fn-arg in
-    let at = loop in
-    (check-fn-arg .kept .1 .1 .1 .1 .0 ∙ at .inv .0, omega arith, λ t u b. turn _ _ (at .inv .2 t u b) (check-fn-arg .ensures t u (rw (return-place .ensures) at (arg-at .ensures)) (arg-below (args .s .now) _ _ b (rw (return-place .ensures) at (arg-at .ensures)) (rw (pair-at .ensures, return-place .ensures) at (loop-test .taken))) (item-is .ensures) (ap not (function-unsafe .ensures))))
+    let at = loop in (
+      check-fn-arg .kept .1 .1 .1 .1 .0 ∙ at .inv .0,
+      omega arith,
+      λ t u b. turn _ _ (at .inv .2 t u b)
+          (check-fn-arg .ensures t u (rw (return-place .ensures) at (arg-at .ensures))
+          (arg-below (args .s .now) _ _ b (rw (return-place .ensures) at (arg-at .ensures))
+          (rw (pair-at .ensures, return-place .ensures) at (loop-test .taken))) (item-is .ensures) (ap not (function-unsafe .ensures))),
+    )
 
 same-length : tie.Need-same-length Inv-loop μ-loop
 same-length c =

@@ -1,4 +1,4 @@
--- `typecheck::functions::check_fn_generics` meets its contract. Assumes nothing.
+-- `typecheck::functions::check_fn_generics` meets its contract: each test that the code makes is that of the definition. Assumes nothing.
 use borrow.Author.Needs.{needs}
 use Rattle.rules.specs.Diagnostics.{when}
 use Rattle.errors.specs.Sink.{taken, left, meant-if}
@@ -33,7 +33,8 @@ returns c = λ t.
     let function-trusted = c .before .before .before .before .function-trusted in
     let and = c .before .before .before .and in
     let item-error = c .before .before .item-error in
-    taken _ _ (if1 .taken) (meant-if _ (item-error .ensures) (rw (function-trusted .ensures, lifetime-count .ensures) at (and .ensures))) (item-is .ensures)
+    taken _ _ (if1 .taken) (meant-if _ (item-error .ensures) (rw (function-trusted .ensures, lifetime-count .ensures) at (and .ensures)))
+    (item-is .ensures)
 
 function-unsafe-requires : tie.Need-function-unsafe-requires
 function-unsafe-requires c κs = search needs
@@ -56,7 +57,8 @@ returns-2 c = λ t.
     let function-unsafe = c .before .before .before .before .function-unsafe in
     let and2 = c .before .before .before .and2 in
     let item-error2 = c .before .before .item-error2 in
-    left _ _ (if1 .left) (meant-if _ (item-error2 .ensures) (rw (function-unsafe .ensures, lifetime-count .ensures) at (and2 .ensures))) (item-is .ensures)
+    left _ _ (if1 .left) (meant-if _ (item-error2 .ensures) (rw (function-unsafe .ensures, lifetime-count .ensures) at (and2 .ensures)))
+    (item-is .ensures)
 
 pub check-fn-generics-spec : {M : Type 1} → statement M
 check-fn-generics-spec =

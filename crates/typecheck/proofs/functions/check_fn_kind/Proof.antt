@@ -1,4 +1,4 @@
--- `typecheck::functions::check_fn_kind` meets its contract. Assumes nothing.
+-- `typecheck::functions::check_fn_kind` meets its contract: each test that the code makes is that of the definition. Assumes nothing.
 use borrow.Author.Needs.{needs}
 use Rattle.errors.specs.Sink.{taken, left, none}
 use Rattle.typecheck.proofs.functions.check_fn_kind.Statement.{statement}

@@ -1,4 +1,4 @@
--- `typecheck::functions::check_fn_receiver` meets its contract. Assumes nothing.
+-- `typecheck::functions::check_fn_receiver` meets its contract: each test that the code makes is that of the definition. Assumes nothing.
 use borrow.Author.Needs.{needs}
 use borrow.Author.Tests.{eq-eqb, ne-eqb}
 use Rattle.rules.specs.Diagnostics.{when}
@@ -41,7 +41,8 @@ returns-2 c = λ t.
     let has = c .before .before .before .before .before .has in
     let if2 = c .before .before .before .before .if2 in
     let item-error2 = c .before .before .item-error2 in
-    left _ _ (ne-eqb _ _ (if1 .left)) (taken _ _ (if2 .taken) (item-error2 .ensures) (rw (self-type .ensures) at (has .ensures))) (rw (self-type .ensures))
+    left _ _ (ne-eqb _ _ (if1 .left)) (taken _ _ (if2 .taken) (item-error2 .ensures) (rw (self-type .ensures) at (has .ensures)))
+    (rw (self-type .ensures))
 
 is-undeclared-requires : tie.Need-is-undeclared-requires
 is-undeclared-requires c κs = search needs
@@ -63,7 +64,8 @@ returns-3 c = λ t.
     let if3 = c .before .before .before .before .if3 in
     let item-error3 = c .before .before .item-error3 in
     left _ _ (ne-eqb _ _ (if1 .left))
-    (left _ _ (if2 .left) (taken _ _ (if3 .taken) (item-error3 .ensures) (rw (self-type .ensures) at (is-undeclared .ensures))) (rw (self-type .ensures) at (has .ensures)))
+    (left _ _ (if2 .left) (taken _ _ (if3 .taken) (item-error3 .ensures) (rw (self-type .ensures) at (is-undeclared .ensures)))
+    (rw (self-type .ensures) at (has .ensures)))
     (rw (self-type .ensures))
 
 is-unpinned-receiver-requires : tie.Need-is-unpinned-receiver-requires

@@ -1,4 +1,4 @@
--- `typecheck::functions::check_fn_return` meets its contract. Assumes nothing.
+-- `typecheck::functions::check_fn_return` meets its contract: each test that the code makes is that of the definition. Assumes nothing.
 use borrow.Author.Needs.{needs}
 use mathlib.Core.Path.{ap, sym, _∙_}
 use mathlib.Core.Bool.{not}
@@ -68,7 +68,8 @@ returns-3 c = λ t u b.
     left _ _ (if1 .left)
     (left _ _ (if2 .left)
     (when-taken _ (if3 .taken) (rw (describe .ensures t, return-row .ensures) at (return-error2 .ensures))
-    (rw (return-row .ensures) at (is-unsized .ensures _ _ u (rw (return-row .ensures) (b (sym (has-return .ensures) ∙ not-false _ (if1 .left))))))) (rw (return-row .ensures) at (is .ensures)))
+    (rw (return-row .ensures) at (is-unsized .ensures _ _ u (rw (return-row .ensures) (b (sym (has-return .ensures) ∙ not-false _ (if1 .left)))))))
+    (rw (return-row .ensures) at (is .ensures)))
     (ap not (has-return .ensures))
 
 returns-4 : tie.Need-returns-4
@@ -82,7 +83,8 @@ returns-4 c = λ t u b.
     let is-unsized = c .before .is-unsized in
     left _ _ (if1 .left)
     (left _ _ (if2 .left) (when-left _ (c .if3 .left) (none _ _)
-    (rw (return-row .ensures) at (is-unsized .ensures _ _ u (rw (return-row .ensures) (b (sym (has-return .ensures) ∙ not-false _ (if1 .left))))))) (rw (return-row .ensures) at (is .ensures)))
+    (rw (return-row .ensures) at (is-unsized .ensures _ _ u (rw (return-row .ensures) (b (sym (has-return .ensures) ∙ not-false _ (if1 .left)))))))
+    (rw (return-row .ensures) at (is .ensures)))
     (ap not (has-return .ensures))
 
 pub check-fn-return-spec : {M : Type 1} → statement M

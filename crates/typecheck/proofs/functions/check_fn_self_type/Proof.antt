@@ -1,4 +1,4 @@
--- `typecheck::functions::check_fn_self_type` meets its contract. Assumes nothing.
+-- `typecheck::functions::check_fn_self_type` meets its contract: each test that the code makes is that of the definition. Assumes nothing.
 use borrow.Author.Needs.{needs}
 use Rattle.rules.specs.Diagnostics.{when}
 use Rattle.errors.specs.Sink.{taken, left, meant-if}
@@ -44,7 +44,8 @@ returns-2 c = λ t.
     let if1 = c .before .before .before .before .before .if1 in
     let is-undeclared = c .before .before .before .is-undeclared in
     let item-error2 = c .before .before .item-error2 in
-    left _ _ (if1 .left) (meant-if _ (item-error2 .ensures) (rw (self-type .ensures) at (is-undeclared .ensures))) (rw (self-type .ensures) at (has .ensures))
+    left _ _ (if1 .left) (meant-if _ (item-error2 .ensures) (rw (self-type .ensures) at (is-undeclared .ensures)))
+    (rw (self-type .ensures) at (has .ensures))
 
 pub check-fn-self-type-spec : {M : Type 1} → statement M
 check-fn-self-type-spec =

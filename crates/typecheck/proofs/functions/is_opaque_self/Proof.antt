@@ -1,4 +1,4 @@
--- `typecheck::functions::is_opaque_self` meets its contract. Assumes nothing.
+-- `typecheck::functions::is_opaque_self` meets its contract: what its calls ensure, put together. Assumes nothing.
 use borrow.Author.Needs.{needs}
 use Rattle.typecheck.proofs.functions.is_opaque_self.Statement.{statement}
 use Rattle.typecheck.proofs.functions.is_opaque_self.Tie as tie

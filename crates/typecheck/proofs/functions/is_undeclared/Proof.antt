@@ -1,4 +1,4 @@
--- `typecheck::functions::is_undeclared` meets its contract. Assumes nothing.
+-- `typecheck::functions::is_undeclared` meets its contract: what its calls ensure, put together. Assumes nothing.
 use borrow.Author.Needs.{needs}
 use Rattle.typecheck.proofs.functions.is_undeclared.Statement.{statement}
 use Rattle.typecheck.proofs.functions.is_undeclared.Tie as tie

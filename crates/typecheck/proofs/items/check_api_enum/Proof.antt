@@ -1,4 +1,4 @@
--- `typecheck::items::check_api_enum` meets its contract. Assumes nothing.
+-- `typecheck::items::check_api_enum` meets its contract: its parts report one after the other. Assumes nothing.
 use borrow.Author.Needs.{needs}
 use Rattle.errors.specs.Sink.{also, also-if}
 use Rattle.rules.specs.Check.{check-api-enum}
@@ -32,8 +32,9 @@ same-length c = search needs
 returns : tie.Need-returns
 unfolding check-api-enum
 returns c = λ t.
-    let check-reserved-name = c .before .before .before .before .before .before .before .before .before .before .before .before .before .before .before .before .before .check-reserved-name in
-    let check-lifetimes = c .before .before .before .before .before .before .before .before .before .before .before .before .before .check-lifetimes in
+    let early = c .before .before .before .before .before .before .before .before .before .before .before .before in
+    let check-reserved-name = early .before .before .before .before .before .check-reserved-name in
+    let check-lifetimes = early .before .check-lifetimes in
     let enum-variants = c .before .before .before .before .before .before .before .before .before .before .enum-variants in
     let enum-explicit = c .before .before .before .before .before .before .before .before .before .enum-explicit in
     let and = c .before .before .before .before .before .before .before .before .and in

@@ -1,4 +1,4 @@
--- `typecheck::items::check_api_impl` meets its contract. Assumes nothing.
+-- `typecheck::items::check_api_impl` meets its contract: its parts report one after the other. Assumes nothing.
 use borrow.Author.Needs.{needs}
 use Rattle.errors.specs.Sink.{also}
 use Rattle.rules.specs.Check.{check-api-impl}

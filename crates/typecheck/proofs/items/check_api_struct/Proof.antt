@@ -1,4 +1,4 @@
--- `typecheck::items::check_api_struct` meets its contract. Assumes nothing.
+-- `typecheck::items::check_api_struct` meets its contract: its parts report one after the other. Assumes nothing.
 use borrow.Author.Needs.{needs}
 use mathlib.Core.Path.{_∙_}
 use Rattle.errors.specs.Sink.{also, also-if}
@@ -31,9 +31,10 @@ check-struct-fields-requires c κs = search needs
 
 same-length : tie.Need-same-length
 same-length c =
-    let check-reserved-name = c .before .before .before .before .before .before .before .before .before .before .before .before .before .before .before .before .before .before .before .before .before .before .before .check-reserved-name in
-    let check-lifetimes = c .before .before .before .before .before .before .before .before .before .before .before .before .before .before .before .before .before .before .before .check-lifetimes in
-    let item-error = c .before .before .before .before .before .before .before .before .before .before .before .before .before .before .item-error in
+    let early = c .before .before .before .before .before .before .before .before .before .before .before .before in
+    let check-reserved-name = early .before .before .before .before .before .before .before .before .before .before .before .check-reserved-name in
+    let check-lifetimes = early .before .before .before .before .before .before .before .check-lifetimes in
+    let item-error = early .before .before .item-error in
     let check-untrusted = c .before .before .before .before .before .before .before .before .before .before .check-untrusted in
     let check-struct-derives = c .before .before .before .before .before .before .check-struct-derives in
     let check-struct-fields = c .before .before .check-struct-fields in
@@ -43,11 +44,12 @@ same-length c =
 returns : tie.Need-returns
 unfolding check-api-struct
 returns c = λ t u b n l.
-    let args = c .before .before .before .before .before .before .before .before .before .before .before .before .before .before .before .before .before .before .before .before .before .before .before .before .before .before .before .args in
-    let check-reserved-name = c .before .before .before .before .before .before .before .before .before .before .before .before .before .before .before .before .before .before .before .before .before .before .before .check-reserved-name in
-    let check-lifetimes = c .before .before .before .before .before .before .before .before .before .before .before .before .before .before .before .before .before .before .before .check-lifetimes in
-    let field-count = c .before .before .before .before .before .before .before .before .before .before .before .before .before .before .before .field-count in
-    let item-error = c .before .before .before .before .before .before .before .before .before .before .before .before .before .before .item-error in
+    let early = c .before .before .before .before .before .before .before .before .before .before .before .before in
+    let args = early .before .before .before .before .before .before .before .before .before .before .before .before .before .before .before .args in
+    let check-reserved-name = early .before .before .before .before .before .before .before .before .before .before .before .check-reserved-name in
+    let check-lifetimes = early .before .before .before .before .before .before .before .check-lifetimes in
+    let field-count = early .before .before .before .field-count in
+    let item-error = early .before .before .item-error in
     let check-untrusted = c .before .before .before .before .before .before .before .before .before .before .check-untrusted in
     let check-struct-derives = c .before .before .before .before .before .before .check-struct-derives in
     let check-struct-fields = c .before .before .check-struct-fields in

@@ -1,4 +1,4 @@
--- `typecheck::items::check_api_type` meets its contract. Assumes nothing.
+-- `typecheck::items::check_api_type` meets its contract: its parts report one after the other. Assumes nothing.
 use borrow.Author.Needs.{needs}
 use Rattle.errors.specs.Sink.{also, also-if}
 use Rattle.rules.specs.Check.{check-api-type}
@@ -31,16 +31,18 @@ same-length c = search needs
 returns : tie.Need-returns
 unfolding check-api-type
 returns c = λ t l.
-    let args = c .before .before .before .before .before .before .before .before .before .before .before .before .before .before .before .before .before .before .before .before .before .before .before .args in
-    let check-reserved-name = c .before .before .before .before .before .before .before .before .before .before .before .before .before .before .before .before .before .before .before .check-reserved-name in
-    let check-lifetimes = c .before .before .before .before .before .before .before .before .before .before .before .before .before .before .before .check-lifetimes in
+    let early = c .before .before .before .before .before .before .before .before .before .before .before .before in
+    let args = early .before .before .before .before .before .before .before .before .before .before .before .args in
+    let check-reserved-name = early .before .before .before .before .before .before .before .check-reserved-name in
+    let check-lifetimes = early .before .before .before .check-lifetimes in
     let check-opaque-derives = c .before .before .before .before .before .before .before .before .before .before .before .check-opaque-derives in
     let type-bounds = c .before .before .before .before .before .before .before .type-bounds in
     let item-error = c .before .before .before .before .before .before .item-error in
     let check-required-trivial = c .before .before .check-required-trivial in
     let T = holding (args .sets .now) (withReasons (args .reasons .now) t) in
     also
-    (also-if _ (also (also (check-reserved-name .ensures T) (check-lifetimes .ensures T)) (check-opaque-derives .ensures T)) (item-error .ensures) (type-bounds .ensures))
+    (also-if _ (also (also (check-reserved-name .ensures T) (check-lifetimes .ensures T)) (check-opaque-derives .ensures T)) (item-error .ensures)
+    (type-bounds .ensures))
     (check-required-trivial .ensures l)
 
 pub check-api-type-spec : {M : Type 1} → statement M

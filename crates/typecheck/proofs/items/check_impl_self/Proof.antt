@@ -1,4 +1,4 @@
--- `typecheck::items::check_impl_self` meets its contract. Assumes nothing.
+-- `typecheck::items::check_impl_self` meets its contract: each test that the code makes is that of the definition. Assumes nothing.
 use borrow.Author.Needs.{needs}
 use mathlib.Core.Path.{ap}
 use mathlib.Core.Bool.{not}
@@ -46,7 +46,8 @@ returns-2 c = λ t.
     let is-generic = c .before .before .before .before .before .is-generic in
     let if2 = c .before .before .before .before .if2 in
     let item-error2 = c .before .before .item-error2 in
-    left _ _ (if1 .left) (taken _ _ (if2 .taken) (item-error2 .ensures) (ap not (rw (impl-row .ensures) at (is-generic .ensures)))) (impl-negative .ensures)
+    left _ _ (if1 .left) (taken _ _ (if2 .taken) (item-error2 .ensures) (ap not (rw (impl-row .ensures) at (is-generic .ensures))))
+    (impl-negative .ensures)
 
 is-atom-target-requires : tie.Need-is-atom-target-requires
 is-atom-target-requires c κs = search needs

@@ -13,7 +13,8 @@ use Rattle.typecheck.proofs.items.check_lifetimes.Statement.{statement}
 use Rattle.typecheck.proofs.items.check_lifetimes.Tie as tie
 
 abbrev Inv-loop : tie.InvT-loop
-Inv-loop s out₀ i at n e₀ j₀ out e j = (length out ≡ length out₀) × (j ≤ n) × ((t : Types) → Reported out₀ e₀ (over j (check-reserved-lifetime s t i)) e out)
+Inv-loop s out₀ i at n e₀ j₀ out e j = (length out ≡ length out₀) × (j ≤ n) ×
+    ((t : Types) → Reported out₀ e₀ (over j (check-reserved-lifetime s t i)) e out)
 
 abbrev μ-loop : tie.MeasureT-loop
 μ-loop s out₀ i at n e₀ j₀ out e j = n - j
@@ -50,8 +51,12 @@ loop-again c =
     let loop = c .before .before .before .before .before .before .loop in
     let entry = c .before .before .before .entry in
     let check-reserved-lifetime = c .before .before .check-reserved-lifetime in
-    let at = loop in
-    (check-reserved-lifetime .kept .1 .0 ∙ at .inv .0, omega arith, λ t. turn _ _ (at .inv .2 t) (check-reserved-lifetime .ensures (args .s .now) t (rw (lifetimes-place .ensures) at (entry .ensures))))
+    let at = loop in (
+      check-reserved-lifetime .kept .1 .0 ∙ at .inv .0,
+      omega arith,
+      λ t. turn _ _ (at .inv .2 t)
+          (check-reserved-lifetime .ensures (args .s .now) t (rw (lifetimes-place .ensures) at (entry .ensures))),
+    )
 
 same-length : tie.Need-same-length Inv-loop μ-loop
 same-length c =

@@ -1,4 +1,4 @@
--- `typecheck::items::check_opaque_derive` meets its contract. Assumes nothing.
+-- `typecheck::items::check_opaque_derive` meets its contract: the test is that of the definition. Assumes nothing.
 use borrow.Author.Needs.{needs}
 use mathlib.Core.Path.{ap}
 use mathlib.Core.Bool.{not}

@@ -13,7 +13,8 @@ use Rattle.typecheck.proofs.items.check_opaque_derives.Statement.{state
 use Rattle.typecheck.proofs.items.check_opaque_derives.Tie as tie
 
 abbrev Inv-loop : tie.InvT-loop
-Inv-loop s out₀ i rust at n e₀ j₀ out e j = (length out ≡ length out₀) × (j ≤ n) × ((t : Types) → Reported out₀ e₀ (over j (check-opaque-derive s t i)) e out)
+Inv-loop s out₀ i rust at n e₀ j₀ out e j = (length out ≡ length out₀) × (j ≤ n) ×
+    ((t : Types) → Reported out₀ e₀ (over j (check-opaque-derive s t i)) e out)
 
 abbrev μ-loop : tie.MeasureT-loop
 μ-loop s out₀ i rust at n e₀ j₀ out e j = n - j
@@ -54,8 +55,12 @@ loop-again c =
     let loop = c .before .before .before .before .before .before .loop in
     let entry = c .before .before .before .entry in
     let check-opaque-derive = c .before .before .check-opaque-derive in
-    let at = loop in
-    (check-opaque-derive .kept .1 .0 ∙ at .inv .0, omega arith, λ t. turn _ _ (at .inv .2 t) (check-opaque-derive .ensures (args .s .now) t (rw (derives-place .ensures) at (entry .ensures)) (item-is .ensures)))
+    let at = loop in (
+      check-opaque-derive .kept .1 .0 ∙ at .inv .0,
+      omega arith,
+      λ t. turn _ _ (at .inv .2 t)
+          (check-opaque-derive .ensures (args .s .now) t (rw (derives-place .ensures) at (entry .ensures)) (item-is .ensures)),
+    )
 
 same-length : tie.Need-same-length Inv-loop μ-loop
 same-length c =

@@ -1,4 +1,4 @@
--- `typecheck::items::check_reserved_lifetime` meets its contract. Assumes nothing.
+-- `typecheck::items::check_reserved_lifetime` meets its contract: the test is that of the definition. Assumes nothing.
 use borrow.Author.Needs.{needs}
 use Rattle.errors.specs.Sink.{meant-if}
 use Rattle.rules.specs.Check.{check-reserved-lifetime}

@@ -1,4 +1,4 @@
--- `typecheck::items::check_reserved_name` meets its contract. Assumes nothing.
+-- `typecheck::items::check_reserved_name` meets its contract: the test is that of the definition. Assumes nothing.
 use borrow.Author.Needs.{needs}
 use Rattle.rules.specs.Names.{isReserved}
 use Rattle.errors.specs.Sink.{meant-if}

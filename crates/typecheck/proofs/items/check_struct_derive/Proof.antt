@@ -1,4 +1,4 @@
--- `typecheck::items::check_struct_derive` meets its contract. Assumes nothing.
+-- `typecheck::items::check_struct_derive` meets its contract: its parts report one after the other. Assumes nothing.
 use borrow.Author.Needs.{needs}
 use Rattle.errors.specs.Sink.{also-if, meant-if}
 use Rattle.rules.specs.Check.{check-struct-derive}

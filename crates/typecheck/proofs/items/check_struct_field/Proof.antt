@@ -1,4 +1,4 @@
--- `typecheck::items::check_struct_field` meets its contract. Assumes nothing.
+-- `typecheck::items::check_struct_field` meets its contract: each test that the code makes is that of the definition. Assumes nothing.
 use borrow.Author.Needs.{needs}
 use Rattle.rules.specs.Diagnostics.{when}
 use Rattle.errors.specs.Sink.{taken, left, when-taken, when-left, none}

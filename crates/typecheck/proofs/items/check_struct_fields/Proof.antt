@@ -16,7 +16,8 @@ use Rattle.typecheck.proofs.items.check_struct_fields.Statement.{statem
 use Rattle.typecheck.proofs.items.check_struct_fields.Tie as tie
 
 abbrev Inv-loop : tie.InvT-loop
-Inv-loop s sets sizes out₀ i at n e₀ j₀ out e j = (length out ≡ length out₀) × (j ≤ n) × ((t : Types) → UnsizedRows s (holding sets t) sizes → FieldsBelow s i → Reported out₀ e₀ (over j (check-struct-field s (holding sets t) i)) e out)
+Inv-loop s sets sizes out₀ i at n e₀ j₀ out e j = (length out ≡ length out₀) × (j ≤ n) ×
+    ((t : Types) → UnsizedRows s (holding sets t) sizes → FieldsBelow s i → Reported out₀ e₀ (over j (check-struct-field s (holding sets t) i)) e out)
 
 abbrev μ-loop : tie.MeasureT-loop
 μ-loop s sets sizes out₀ i at n e₀ j₀ out e j = n - j
@@ -55,8 +56,13 @@ loop-again c =
     let loop-test = c .before .before .before .before .before .loop-test in
     let entry = c .before .before .before .entry in
     let check-struct-field = c .before .before .check-struct-field in
-    let at = loop in
-    (check-struct-field .kept .1 .1 .1 .1 .0 ∙ at .inv .0, omega arith, λ t u b. turn _ _ (at .inv .2 t u b) (check-struct-field .ensures t u (rw (rest .ensures) at (entry .ensures)) (field-below (args .s .now) _ _ b (rw (rest .ensures) at (entry .ensures)) (rw (pair-at .ensures, rest .ensures) at (loop-test .taken)))))
+    let at = loop in (
+      check-struct-field .kept .1 .1 .1 .1 .0 ∙ at .inv .0,
+      omega arith,
+      λ t u b. turn _ _ (at .inv .2 t u b)
+          (check-struct-field .ensures t u (rw (rest .ensures) at (entry .ensures))
+          (field-below (args .s .now) _ _ b (rw (rest .ensures) at (entry .ensures)) (rw (pair-at .ensures, rest .ensures) at (loop-test .taken)))),
+    )
 
 same-length : tie.Need-same-length Inv-loop μ-loop
 same-length c =

@@ -1,4 +1,4 @@
--- `typecheck::items::is_atom_target` meets its contract. Assumes nothing.
+-- `typecheck::items::is_atom_target` meets its contract: what its calls ensure, put together. Assumes nothing.
 use borrow.Author.Needs.{needs}
 use Rattle.typecheck.proofs.items.is_atom_target.Statement.{statement}
 use Rattle.typecheck.proofs.items.is_atom_target.Tie as tie

@@ -1,4 +1,4 @@
--- `typecheck::items::is_generic` meets its contract. Assumes nothing.
+-- `typecheck::items::is_generic` meets its contract: what its calls ensure, put together. Assumes nothing.
 use borrow.Author.Needs.{needs}
 use Rattle.typecheck.proofs.items.is_generic.Statement.{statement}
 use Rattle.typecheck.proofs.items.is_generic.Tie as tie

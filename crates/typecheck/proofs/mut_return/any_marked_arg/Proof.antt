@@ -48,8 +48,11 @@ loop-again c =
     let args = c .before .before .before .before .before .before .before .args in
     let loop = c .before .before .before .before .loop in
     let arg-at = c .before .before .arg-at in
-    let looked-up = c .before .marked in
-    (omega arith, any-turn (marked _) (entry (args .s .now) (args .place + 2)) _ (loop .inv .1) (rw (arg-at .ensures) at (looked-up .ensures)) (c .or .ensures))
+    let looked-up = c .before .marked in (
+      omega arith,
+      any-turn (marked _) (entry (args .s .now) (args .place + 2)) _ (loop .inv .1) (rw (arg-at .ensures) at (looked-up .ensures))
+          (c .or .ensures),
+    )
 
 returns : tie.Need-returns Inv-loop μ-loop
 unfolding entries
@@ -58,7 +61,8 @@ returns c =
     let pair-at = c .before .before .pair-at in
     let loop = c .before .loop in
     let e : loop .j ≡ pair-at .result = omega arith in
-    loop .inv .1 ∙ ap (λ (n : ℕ). anyOf (marked (args .table .now)) (over n (λ k. entry (args .s .now) (args .place + 2) k ∷ []))) (e ∙ pair-at .ensures)
+    loop .inv .1 ∙ ap (λ (n : ℕ). anyOf (marked (args .table .now)) (over n (λ k. entry (args .s .now) (args .place + 2) k ∷ [])))
+    (e ∙ pair-at .ensures)
 
 pub any-marked-arg-spec : {M : Type 1} → statement M
 any-marked-arg-spec =

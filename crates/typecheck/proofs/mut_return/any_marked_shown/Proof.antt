@@ -1,4 +1,4 @@
--- `typecheck::mut_return::any_marked_shown` meets its contract. Assumes nothing.
+-- `typecheck::mut_return::any_marked_shown` meets its contract: what its calls ensure, put together. Assumes nothing.
 use borrow.Author.Needs.{needs}
 use mathlib.Core.Path.{refl, sym, ap, _∙_}
 use borrow.Author.Tests.{ne-eqb}
@@ -55,7 +55,14 @@ returns-2 c =
     let is-marked-return = c .before .before .before .is-marked-return in
     let offset = c .before .before .offset in
     let any-marked-arg = c .before .any-marked-arg in
-    rw (is-marked-return .ensures, fn-return .ensures, any-marked-arg .ensures, offset .ensures, any-fn _ _ (marked _) (sym (kind .ensures) ∙ if2 .taken)) at (c .or3 .ensures)
+    rw (
+      is-marked-return .ensures,
+      fn-return .ensures,
+      any-marked-arg .ensures,
+      offset .ensures,
+      any-fn _ _ (marked _)
+          (sym (kind .ensures) ∙ if2 .taken),
+    ) at (c .or3 .ensures)
 
 inner-requires : tie.Need-inner-requires
 inner-requires c κs = search needs
@@ -71,7 +78,8 @@ returns-3 c =
     let if1 = c .before .before .before .if1 in
     let if2 = c .before .before .if2 in
     let inner = c .before .inner in
-    rw (shown-inner _ _ _ (sym (rw (or .ensures) at (or2 .ensures)) ∙ if1 .left) (ne-eqb _ _ (if2 .left)) (sym (kind .ensures)), any-one) (rw (inner .ensures) at (c .marked .ensures))
+    rw (shown-inner _ _ _ (sym (rw (or .ensures) at (or2 .ensures)) ∙ if1 .left) (ne-eqb _ _ (if2 .left)) (sym (kind .ensures)), any-one)
+    (rw (inner .ensures) at (c .marked .ensures))
 
 pub any-marked-shown-spec : {M : Type 1} → statement M
 any-marked-shown-spec =

@@ -1,4 +1,4 @@
--- `typecheck::mut_return::check_mut_return_restriction` meets its contract. Assumes nothing.
+-- `typecheck::mut_return::check_mut_return_restriction` meets its contract: each test that the code makes is that of the definition. Assumes nothing.
 use borrow.Author.Needs.{needs}
 use mathlib.Core.Path.{_∙_, ap}
 use mathlib.Core.Bool.{not}
@@ -42,7 +42,8 @@ returns-3 c = λ t m b u n.
     let if2 = c .before .before .if2 in
     let may-receiver-lend = c .before .may-receiver-lend in
     left _ _ (if1 .left)
-    (left _ _ (if2 .left) (taken _ _ (c .if3 .taken) (none _ _) (may-receiver-lend .ensures t u n)) (ap not (returns-mut .ensures (withLastType _ t))))
+    (left _ _ (if2 .left) (taken _ _ (c .if3 .taken) (none _ _) (may-receiver-lend .ensures t u n))
+    (ap not (returns-mut .ensures (withLastType _ t))))
     (function-unsafe .ensures)
 
 return-place-requires : tie.Need-return-place-requires

@@ -1,4 +1,4 @@
--- `typecheck::mut_return::is_lifetime_mut` meets its contract. Assumes nothing.
+-- `typecheck::mut_return::is_lifetime_mut` meets its contract: each test that the code makes is that of the definition. Assumes nothing.
 use borrow.Author.Needs.{needs}
 use mathlib.Core.Path.{_∙_, sym}
 use borrow.Author.Tests.{not-true, not-false, eqb-true}
@@ -74,7 +74,8 @@ returns-3 c = λ t u n.
     let plain = sym (is3 .ensures) ∙ not-false _ (if2 .left) in
     let named = n (eqb-true _ _ plain) in
     if-left _ _ (if1 .left)
-    (and-so _ _ _ plain (rw (is-atom .ensures, may-have-lifetimes .ensures t u (rw (row-name .ensures) named), row-name .ensures) at (c .and .ensures)))
+    (and-so _ _ _ plain (rw (is-atom .ensures, may-have-lifetimes .ensures t u (rw (row-name .ensures) named), row-name .ensures) at
+    (c .and .ensures)))
     (rw (is .ensures, is2 .ensures) at (or .ensures))
 
 pub is-lifetime-mut-spec : {M : Type 1} → statement M

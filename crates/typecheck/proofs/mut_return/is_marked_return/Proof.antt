@@ -1,4 +1,4 @@
--- `typecheck::mut_return::is_marked_return` meets its contract. Assumes nothing.
+-- `typecheck::mut_return::is_marked_return` meets its contract: what its calls ensure, put together. Assumes nothing.
 use borrow.Author.Needs.{needs}
 use mathlib.Core.Path.{refl, sym, ap, _∙_}
 use borrow.Author.Tests.{eq-eqb, ne-eqb}

@@ -1,4 +1,4 @@
--- `typecheck::mut_return::is_mut_row` meets its contract. Assumes nothing.
+-- `typecheck::mut_return::is_mut_row` meets its contract: each test that the code makes is that of the definition. Assumes nothing.
 use borrow.Author.Needs.{needs}
 use mathlib.Core.Path.{refl}
 use Rattle.typecheck_rows.proofs.Branches.{if-taken, if-left}

@@ -17,7 +17,8 @@ use Rattle.typecheck.proofs.mut_return.lifetime_mut_rows.Statement.{sta
 use Rattle.typecheck.proofs.mut_return.lifetime_mut_rows.Tie as tie
 
 abbrev Inv-loop : tie.InvT-loop
-Inv-loop s last-type n table₀ r₀ table r = (r ≤ n) × (n ≤ 1024) × (length table ≡ 1024) × ((t : Types) → length last-type ≡ 256 → Right (find-lifetime-mut s (withLastType last-type t)) table r)
+Inv-loop s last-type n table₀ r₀ table r = (r ≤ n) × (n ≤ 1024) × (length table ≡ 1024) ×
+    ((t : Types) → length last-type ≡ 256 → Right (find-lifetime-mut s (withLastType last-type t)) table r)
 
 abbrev μ-loop : tie.MeasureT-loop
 μ-loop s last-type n table₀ r₀ table r = n - r

@@ -1,4 +1,4 @@
--- `typecheck::mut_return::may_have_lifetimes` meets its contract. Assumes nothing.
+-- `typecheck::mut_return::may_have_lifetimes` meets its contract: what its calls ensure, put together. Assumes nothing.
 use borrow.Author.Needs.{needs}
 use mathlib.Core.Path.{_∙_}
 use Rattle.rules.specs.Check.{may-have-lifetimes}

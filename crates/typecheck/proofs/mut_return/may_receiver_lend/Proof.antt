@@ -1,4 +1,4 @@
--- `typecheck::mut_return::may_receiver_lend` meets its contract. Assumes nothing.
+-- `typecheck::mut_return::may_receiver_lend` meets its contract: each test that the code makes is that of the definition. Assumes nothing.
 use borrow.Author.Needs.{needs}
 use mathlib.Core.Path.{_∙_, sym}
 use borrow.Author.Tests.{not-true, not-false}

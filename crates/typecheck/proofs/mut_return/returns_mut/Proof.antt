@@ -1,4 +1,4 @@
--- `typecheck::mut_return::returns_mut` meets its contract. Assumes nothing.
+-- `typecheck::mut_return::returns_mut` meets its contract: what its calls ensure, put together. Assumes nothing.
 use borrow.Author.Needs.{needs}
 use Rattle.rules.specs.Check.{returns-mut}
 use Rattle.typecheck.proofs.mut_return.returns_mut.Statement.{statement}
@@ -42,7 +42,8 @@ returns c = λ t.
     let and = c .before .before .before .and in
     let row-flags = c .before .before .row-flags in
     let flag1 = c .before .flag1 in
-    rw (and .ensures, has-return .ensures, or .ensures, is .ensures, is2 .ensures, flag1 .ensures, row-flags .ensures, return-row .ensures) at (c .and2 .ensures)
+    rw (and .ensures, has-return .ensures, or .ensures, is .ensures, is2 .ensures, flag1 .ensures, row-flags .ensures, return-row .ensures) at
+    (c .and2 .ensures)
 
 pub returns-mut-spec : {M : Type 1} → statement M
 returns-mut-spec =

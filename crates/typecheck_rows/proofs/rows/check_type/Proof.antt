@@ -157,7 +157,8 @@ returns-10 c = λ t u acc l.
     let kind = c .before .before .before .before .before .kind in
     let match = c .before .before .before .before .match in
     let check-type-slice-ref = c .before .before .check-type-slice-ref in
-    meant (check-type-slice-ref .ensures t u (lt-trans (row-of _ acc _ l .inner-falls 10 refl (sym (kind .ensures) ∙ match .keys10)) l)) (by-kind _ (holding _ t) _ (sym (match .keys10) ∙ kind .ensures))
+    meant (check-type-slice-ref .ensures t u (lt-trans (row-of _ acc _ l .inner-falls 10 refl (sym (kind .ensures) ∙ match .keys10)) l))
+    (by-kind _ (holding _ t) _ (sym (match .keys10) ∙ kind .ensures))
 
 same-length-11 : tie.Need-same-length-11
 same-length-11 c = search needs
@@ -168,7 +169,8 @@ returns-11 c = λ t u acc l.
     let kind = c .before .before .before .before .before .kind in
     let match = c .before .before .before .before .match in
     let check-type-array = c .before .before .check-type-array in
-    meant (check-type-array .ensures (holding _ t) u (lt-trans (row-of _ acc _ l .inner-falls 11 refl (sym (kind .ensures) ∙ match .keys11)) l)) (by-kind _ (holding _ t) _ (sym (match .keys11) ∙ kind .ensures))
+    meant (check-type-array .ensures (holding _ t) u (lt-trans (row-of _ acc _ l .inner-falls 11 refl (sym (kind .ensures) ∙ match .keys11)) l))
+    (by-kind _ (holding _ t) _ (sym (match .keys11) ∙ kind .ensures))
 
 same-length-12 : tie.Need-same-length-12
 same-length-12 c = search needs
@@ -184,7 +186,10 @@ returns-12 c = λ t u acc l.
 returns-13 : tie.Need-returns-13
 returns-13 c = λ t u acc l.
     let kind = c .before .kind in
-    meant (none _ _) (nothing _ (holding _ t) _ _ (c .match .rest .0 .0 .0 .0 .0 .0 .0 .0 .0 .0 .0 .1) (c .match .rest .0 .0 .0 .0 .0 .0 .0 .0 .0 .0 .1) (c .match .rest .0 .0 .0 .0 .0 .0 .0 .0 .0 .1) (c .match .rest .0 .0 .0 .0 .0 .0 .0 .0 .1) (c .match .rest .0 .0 .0 .0 .0 .0 .0 .1) (c .match .rest .0 .0 .0 .0 .0 .0 .1) (c .match .rest .0 .0 .0 .0 .0 .1) (c .match .rest .0 .0 .0 .0 .1) (c .match .rest .0 .0 .0 .1) (c .match .rest .0 .0 .1) (c .match .rest .0 .1) (c .match .rest .1) ∙ by-kind _ (holding _ t) _ (kind .ensures))
+    meant (none _ _) (nothing _ (holding _ t) _ _ (c .match .rest .0 .0 .0 .0 .0 .0 .0 .0 .0 .0 .0 .1)
+    (c .match .rest .0 .0 .0 .0 .0 .0 .0 .0 .0 .0 .1) (c .match .rest .0 .0 .0 .0 .0 .0 .0 .0 .0 .1) (c .match .rest .0 .0 .0 .0 .0 .0 .0 .0 .1)
+    (c .match .rest .0 .0 .0 .0 .0 .0 .0 .1) (c .match .rest .0 .0 .0 .0 .0 .0 .1) (c .match .rest .0 .0 .0 .0 .0 .1) (c .match .rest .0 .0 .0 .0 .1)
+    (c .match .rest .0 .0 .0 .1) (c .match .rest .0 .0 .1) (c .match .rest .0 .1) (c .match .rest .1) ∙ by-kind _ (holding _ t) _ (kind .ensures))
 
 pub check-type-spec : {M : Type 1} → statement M
 check-type-spec =

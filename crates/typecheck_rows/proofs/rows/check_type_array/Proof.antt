@@ -1,4 +1,4 @@
--- `typecheck_rows::rows::check_type_array` meets its contract. Assumes nothing.
+-- `typecheck_rows::rows::check_type_array` meets its contract: the test is that of the definition. Assumes nothing.
 use borrow.Author.Needs.{needs}
 use Rattle.errors.specs.Sink.{meant-if}
 use Rattle.rules.specs.Check.{check-type-array}

@@ -1,4 +1,4 @@
--- `typecheck_rows::rows::check_type_fn` meets its contract. Assumes nothing.
+-- `typecheck_rows::rows::check_type_fn` meets its contract: its parts report one after the other. Assumes nothing.
 use borrow.Author.Needs.{needs}
 use Rattle.errors.specs.Sink.{also, meant-if}
 use Rattle.rules.specs.Check.{check-type-fn}

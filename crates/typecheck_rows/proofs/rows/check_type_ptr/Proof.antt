@@ -1,21 +1,11 @@
--- `typecheck_rows::rows::check_type_ptr` meets its contract. Assumes nothing.
+-- `typecheck_rows::rows::check_type_ptr` meets its contract: what its calls ensure, put together. Assumes nothing.
 use borrow.Author.Needs.{needs}
-use Rattle.errors.specs.Sink.{also-if, meant-if}
 use Rattle.rules.specs.Check.{check-type-ptr}
 use Rattle.typecheck_rows.proofs.rows.check_type_ptr.Statement.{statement}
 use Rattle.typecheck_rows.proofs.rows.check_type_ptr.Tie as tie
 
-target-is-requires : tie.Need-target-is-requires
-target-is-requires c κs = search needs
-
-row-error-requires : tie.Need-row-error-requires
-row-error-requires c κs = search needs
-
-is-fn-or-void-target-requires : tie.Need-is-fn-or-void-target-requires
-is-fn-or-void-target-requires c κs = search needs
-
-row-error-requires-2 : tie.Need-row-error-requires-2
-row-error-requires-2 c κs = search needs
+check-pointee-requires : tie.Need-check-pointee-requires
+check-pointee-requires c κs = search needs
 
 same-length : tie.Need-same-length
 same-length c = search needs
@@ -23,19 +13,8 @@ same-length c = search needs
 returns : tie.Need-returns
 unfolding check-type-ptr
 returns c = λ t.
-    let target-is = c .before .before .before .before .before .before .before .before .target-is in
-    let row-error = c .before .before .before .before .before .before .before .row-error in
-    let is-fn-or-void-target = c .before .before .before .is-fn-or-void-target in
-    let row-error2 = c .before .before .row-error2 in
-    also-if _ (meant-if _ (row-error .ensures) (target-is .ensures)) (row-error2 .ensures) (is-fn-or-void-target .ensures)
+    let check-pointee = c .before .before .check-pointee in
+    check-pointee .ensures
 
 pub check-type-ptr-spec : {M : Type 1} → statement M
-check-type-ptr-spec =
-    tie.close
-    (tie.spec
-    target-is-requires
-    row-error-requires
-    is-fn-or-void-target-requires
-    row-error-requires-2
-    same-length
-    returns)
+check-type-ptr-spec = tie.close (tie.spec check-pointee-requires same-length returns)

@@ -1,6 +1,7 @@
--- `typecheck_rows::rows::check_type_ref` meets its contract. Assumes nothing.
+-- `typecheck_rows::rows::check_type_ref` meets its contract: its parts report one after the other. Assumes nothing.
 use borrow.Author.Needs.{needs}
-use Rattle.errors.specs.Sink.{also-if, meant-if}
+use mathlib.Core.List.{append-assoc}
+use Rattle.errors.specs.Sink.{also, meant-if}
 use Rattle.rules.specs.Check.{check-type-ref}
 use Rattle.typecheck_rows.proofs.rows.check_type_ref.Statement.{statement}
 use Rattle.typecheck_rows.proofs.rows.check_type_ref.Tie as tie
@@ -20,17 +21,8 @@ and-requires c κs = search needs
 row-error-requires : tie.Need-row-error-requires
 row-error-requires c κs = search needs
 
-target-is-requires : tie.Need-target-is-requires
-target-is-requires c κs = search needs
-
-row-error-requires-2 : tie.Need-row-error-requires-2
-row-error-requires-2 c κs = search needs
-
-is-fn-or-void-target-requires : tie.Need-is-fn-or-void-target-requires
-is-fn-or-void-target-requires c κs = search needs
-
-row-error-requires-3 : tie.Need-row-error-requires-3
-row-error-requires-3 c κs = search needs
+check-pointee-requires : tie.Need-check-pointee-requires
+check-pointee-requires c κs = search needs
 
 same-length : tie.Need-same-length
 same-length c = search needs
@@ -38,20 +30,14 @@ same-length c = search needs
 returns : tie.Need-returns
 unfolding check-type-ref
 returns c = λ t.
-    let is-unpinned = c .before .before .before .before .before .before .before .before .before .before .before .before .before .before .before .before .before .is-unpinned in
-    let inner = c .before .before .before .before .before .before .before .before .before .before .before .before .before .before .before .before .inner in
-    let requires-pin = c .before .before .before .before .before .before .before .before .before .before .before .before .before .before .before .requires-pin in
-    let and = c .before .before .before .before .before .before .before .before .before .before .before .before .before .before .and in
-    let row-error = c .before .before .before .before .before .before .before .before .before .before .before .before .row-error in
-    let target-is = c .before .before .before .before .before .before .before .before .target-is in
-    let row-error2 = c .before .before .before .before .before .before .before .row-error2 in
-    let is-fn-or-void-target = c .before .before .before .is-fn-or-void-target in
-    let row-error3 = c .before .before .row-error3 in
-    also-if _
-    (also-if _
-    (meant-if _ (row-error .ensures) (rw (is-unpinned .ensures, requires-pin .ensures t, inner .ensures) at (and .ensures)))
-    (row-error2 .ensures) (target-is .ensures))
-    (row-error3 .ensures) (is-fn-or-void-target .ensures)
+    let is-unpinned = c .before .before .before .before .before .before .before .before .before .before .before .is-unpinned in
+    let inner = c .before .before .before .before .before .before .before .before .before .before .inner in
+    let requires-pin = c .before .before .before .before .before .before .before .before .before .requires-pin in
+    let and = c .before .before .before .before .before .before .before .before .and in
+    let row-error = c .before .before .before .before .before .before .row-error in
+    let check-pointee = c .before .before .check-pointee in
+    let pin = rw (is-unpinned .ensures, requires-pin .ensures t, inner .ensures) at (and .ensures) in
+    rw append-assoc (also (meant-if _ (row-error .ensures) pin) (check-pointee .ensures))
 
 pub check-type-ref-spec : {M : Type 1} → statement M
 check-type-ref-spec =
@@ -62,9 +48,6 @@ check-type-ref-spec =
     requires-pin-requires
     and-requires
     row-error-requires
-    target-is-requires
-    row-error-requires-2
-    is-fn-or-void-target-requires
-    row-error-requires-3
+    check-pointee-requires
     same-length
     returns)

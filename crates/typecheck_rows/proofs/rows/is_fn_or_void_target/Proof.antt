@@ -1,4 +1,4 @@
--- `typecheck_rows::rows::is_fn_or_void_target` meets its contract. Assumes nothing.
+-- `typecheck_rows::rows::is_fn_or_void_target` meets its contract: what its calls ensure, put together. Assumes nothing.
 use borrow.Author.Needs.{needs}
 use Rattle.typecheck_rows.proofs.rows.is_fn_or_void_target.Statement.{statement}
 use Rattle.typecheck_rows.proofs.rows.is_fn_or_void_target.Tie as tie

@@ -1,4 +1,4 @@
--- `typecheck_rows::rows::requires_pin` meets its contract. Assumes nothing.
+-- `typecheck_rows::rows::requires_pin` meets its contract: what its calls ensure, put together. Assumes nothing.
 use borrow.Author.Needs.{needs}
 use Rattle.rules.specs.Check.{requires-pin}
 use Rattle.typecheck_rows.proofs.rows.requires_pin.Statement.{statement}

@@ -1,4 +1,4 @@
--- `typecheck_rows::sizes::describe_ident` meets its contract. Assumes nothing.
+-- `typecheck_rows::sizes::describe_ident` meets its contract: what its calls ensure, put together. Assumes nothing.
 use borrow.Author.Needs.{needs}
 use Rattle.rules.specs.Check.{describe-ident}
 use Rattle.typecheck_rows.proofs.sizes.describe_ident.Statement.{statement}
@@ -54,7 +54,19 @@ returns c = λ s t.
     let has4 = c .before .before .before .has4 in
     let pick6 = c .before .before .pick6 in
     let has5 = c .before .has5 in
-    rw (has5 .ensures, pick6 .ensures, has4 .ensures, pick5 .ensures, has3 .ensures, pick4 .ensures, has2 .ensures, pick3 .ensures, has .ensures, pick2 .ensures, pick .ensures) at (c .pick7 .ensures)
+    rw (
+      has5 .ensures,
+      pick6 .ensures,
+      has4 .ensures,
+      pick5 .ensures,
+      has3 .ensures,
+      pick4 .ensures,
+      has2 .ensures,
+      pick3 .ensures,
+      has .ensures,
+      pick2 .ensures,
+      pick .ensures,
+    ) at (c .pick7 .ensures)
 
 pub describe-ident-spec : {M : Type 1} → statement M
 describe-ident-spec =

@@ -1,4 +1,4 @@
--- `typecheck_rows::sizes::describe_other` meets its contract. Assumes nothing.
+-- `typecheck_rows::sizes::describe_other` meets its contract: what its calls ensure, put together. Assumes nothing.
 use borrow.Author.Needs.{needs}
 use Rattle.typecheck_rows.specs.Tests.{describeOther}
 use Rattle.typecheck_rows.proofs.sizes.describe_other.Statement.{statement}
@@ -54,7 +54,19 @@ returns c =
     let pick9 = c .before .before .before .pick9 in
     let pick10 = c .before .before .pick10 in
     let pick11 = c .before .pick11 in
-    rw (pick11 .ensures, pick10 .ensures, pick9 .ensures, pick8 .ensures, pick7 .ensures, pick6 .ensures, pick5 .ensures, pick4 .ensures, pick3 .ensures, pick2 .ensures, pick .ensures) at (c .pick12 .ensures)
+    rw (
+      pick11 .ensures,
+      pick10 .ensures,
+      pick9 .ensures,
+      pick8 .ensures,
+      pick7 .ensures,
+      pick6 .ensures,
+      pick5 .ensures,
+      pick4 .ensures,
+      pick3 .ensures,
+      pick2 .ensures,
+      pick .ensures,
+    ) at (c .pick12 .ensures)
 
 pub describe-other-spec : {M : Type 1} → statement M
 describe-other-spec =

@@ -1,4 +1,4 @@
--- `typecheck_rows::sizes::is_cxx_unsized` meets its contract. Assumes nothing.
+-- `typecheck_rows::sizes::is_cxx_unsized` meets its contract: what its calls ensure, put together. Assumes nothing.
 use borrow.Author.Needs.{needs}
 use Rattle.typecheck_rows.proofs.sizes.is_cxx_unsized.Statement.{statement}
 use Rattle.typecheck_rows.proofs.sizes.is_cxx_unsized.Tie as tie

@@ -1,4 +1,4 @@
--- `typecheck_rows::sizes::is_unsized` meets its contract. Assumes nothing.
+-- `typecheck_rows::sizes::is_unsized` meets its contract: what its calls ensure, put together. Assumes nothing.
 use borrow.Author.Needs.{needs}
 use mathlib.Core.Path.{_∙_}
 use Rattle.typecheck_rows.proofs.sizes.is_unsized.Statement.{statement}

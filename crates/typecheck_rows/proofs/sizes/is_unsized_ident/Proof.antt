@@ -1,4 +1,4 @@
--- `typecheck_rows::sizes::is_unsized_ident` meets its contract. Assumes nothing.
+-- `typecheck_rows::sizes::is_unsized_ident` meets its contract: what its calls ensure, put together. Assumes nothing.
 use borrow.Author.Needs.{needs}
 use Rattle.rules.specs.Check.{is-unsized-ident}
 use Rattle.typecheck_rows.proofs.sizes.is_unsized_ident.Statement.{statement}

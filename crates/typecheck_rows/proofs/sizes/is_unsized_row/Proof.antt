@@ -1,4 +1,4 @@
--- `typecheck_rows::sizes::is_unsized_row` meets its contract. Assumes nothing.
+-- `typecheck_rows::sizes::is_unsized_row` meets its contract: each test that the code makes is that of the definition. Assumes nothing.
 use borrow.Author.Needs.{needs}
 use Rattle.typecheck_rows.proofs.Branches.{if-taken, if-left}
 use Rattle.typecheck_rows.specs.Tests.{unsizedRow}

@@ -1,4 +1,4 @@
--- `typecheck_rows::sizes::marked` meets its contract. Assumes nothing.
+-- `typecheck_rows::sizes::marked` meets its contract: what its calls ensure, put together. Assumes nothing.
 use borrow.Author.Needs.{needs}
 use borrow.Author.Tests.{lt-ltb, le-ltb}
 use Rattle.typecheck_rows.specs.Tables.{marked}

@@ -17,7 +17,8 @@ use Rattle.typecheck_rows.proofs.sizes.unsized_rows.Statement.{statemen
 use Rattle.typecheck_rows.proofs.sizes.unsized_rows.Tie as tie
 
 abbrev Inv-loop : tie.InvT-loop
-Inv-loop s sets n table₀ r₀ table r = (r ≤ n) × (n ≤ 1024) × (length table ≡ 1024) × ((t : Types) → Right (is-unsized-within s (holding sets t)) table r)
+Inv-loop s sets n table₀ r₀ table r = (r ≤ n) × (n ≤ 1024) × (length table ≡ 1024) ×
+    ((t : Types) → Right (is-unsized-within s (holding sets t)) table r)
 
 abbrev μ-loop : tie.MeasureT-loop
 μ-loop s sets n table₀ r₀ table r = n - r

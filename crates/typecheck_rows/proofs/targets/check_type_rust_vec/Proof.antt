@@ -45,13 +45,14 @@ returns-3 c = λ t.
     let is-vec-element = c .before .before .before .is-vec-element in
     let if2 = c .before .before .if2 in
     let target-is = c .before .target-is in
-    left _ _ (if1 .left) (left _ _ (if2 .left) (taken _ _ (c .if3 .taken) (none _ _) (target-is .ensures)) (is-vec-element .ensures)) (is-cxx-target .ensures)
-
-target-is-requires-2 : tie.Need-target-is-requires-2
-target-is-requires-2 c κs = search needs
+    left _ _ (if1 .left) (left _ _ (if2 .left) (taken _ _ (c .if3 .taken) (none _ _) (target-is .ensures)) (is-vec-element .ensures))
+    (is-cxx-target .ensures)
 
 inner-requires : tie.Need-inner-requires
 inner-requires c κs = search needs
+
+is-requires : tie.Need-is-requires
+is-requires c κs = search needs
 
 check-type-box-requires : tie.Need-check-type-box-requires
 check-type-box-requires c κs = search needs
@@ -68,11 +69,13 @@ returns-4 c = λ t.
     let if2 = c .before .before .before .before .before .before .before .before .before .if2 in
     let target-is = c .before .before .before .before .before .before .before .before .target-is in
     let if3 = c .before .before .before .before .before .before .before .if3 in
-    let target-is2 = c .before .before .before .before .before .before .target-is2 in
-    let if4 = c .before .before .before .before .before .if4 in
-    let inner = c .before .before .before .inner in
+    let inner = c .before .before .before .before .before .before .inner in
+    let is = c .before .before .before .before .before .is in
+    let if4 = c .before .before .before .before .if4 in
     let check-type-box = c .before .before .check-type-box in
-    left _ _ (if1 .left) (left _ _ (if2 .left) (left _ _ (if3 .left) (taken _ _ (if4 .taken) (rw (inner .ensures) at (check-type-box .ensures t)) (target-is2 .ensures)) (target-is .ensures)) (is-vec-element .ensures)) (is-cxx-target .ensures)
+    left _ _ (if1 .left) (left _ _ (if2 .left)
+    (left _ _ (if3 .left) (taken _ _ (if4 .taken) (rw (inner .ensures) at (check-type-box .ensures t)) (rw (inner .ensures) at (is .ensures)))
+    (target-is .ensures)) (is-vec-element .ensures)) (is-cxx-target .ensures)
 
 row-error-requires-2 : tie.Need-row-error-requires-2
 row-error-requires-2 c κs = search needs
@@ -83,16 +86,19 @@ same-length-3 c = search needs
 returns-5 : tie.Need-returns-5
 unfolding check-type-rust-vec when
 returns-5 c = λ t.
-    let is-cxx-target = c .before .before .before .before .before .before .before .before .before .before .before .is-cxx-target in
-    let if1 = c .before .before .before .before .before .before .before .before .before .before .if1 in
-    let is-vec-element = c .before .before .before .before .before .before .before .before .before .is-vec-element in
-    let if2 = c .before .before .before .before .before .before .before .before .if2 in
-    let target-is = c .before .before .before .before .before .before .before .target-is in
-    let if3 = c .before .before .before .before .before .before .if3 in
-    let target-is2 = c .before .before .before .before .before .target-is2 in
+    let is-cxx-target = c .before .before .before .before .before .before .before .before .before .before .before .before .is-cxx-target in
+    let if1 = c .before .before .before .before .before .before .before .before .before .before .before .if1 in
+    let is-vec-element = c .before .before .before .before .before .before .before .before .before .before .is-vec-element in
+    let if2 = c .before .before .before .before .before .before .before .before .before .if2 in
+    let target-is = c .before .before .before .before .before .before .before .before .target-is in
+    let if3 = c .before .before .before .before .before .before .before .if3 in
+    let inner = c .before .before .before .before .before .before .inner in
+    let is = c .before .before .before .before .before .is in
     let if4 = c .before .before .before .before .if4 in
     let row-error2 = c .before .before .row-error2 in
-    left _ _ (if1 .left) (left _ _ (if2 .left) (left _ _ (if3 .left) (left _ _ (if4 .left) ((row-error2 .ensures)) (target-is2 .ensures)) (target-is .ensures)) (is-vec-element .ensures)) (is-cxx-target .ensures)
+    left _ _ (if1 .left) (left _ _ (if2 .left)
+    (left _ _ (if3 .left) (left _ _ (if4 .left) ((row-error2 .ensures)) (rw (inner .ensures) at (is .ensures))) (target-is .ensures))
+    (is-vec-element .ensures)) (is-cxx-target .ensures)
 
 pub check-type-rust-vec-spec : {M : Type 1} → statement M
 check-type-rust-vec-spec =
@@ -106,8 +112,8 @@ check-type-rust-vec-spec =
     returns-2
     target-is-requires
     returns-3
-    target-is-requires-2
     inner-requires
+    is-requires
     check-type-box-requires
     same-length-2
     returns-4

@@ -52,7 +52,8 @@ returns-3 c = λ t.
     let if2 = c .before .before .before .before .before .if2 in
     let target-is = c .before .before .before .target-is in
     let row-error2 = c .before .before .row-error2 in
-    left _ _ (if1 .left) (left _ _ (if2 .left) ((unless {x = target-is .result} _ (row-error2 .ensures) (target-is .ensures))) (is-unique-target .ensures)) (is-rust-target .ensures)
+    left _ _ (if1 .left) (left _ _ (if2 .left) ((unless {x = target-is .result} _ (row-error2 .ensures) (target-is .ensures)))
+    (is-unique-target .ensures)) (is-rust-target .ensures)
 
 pub check-type-unique-ptr-spec : {M : Type 1} → statement M
 check-type-unique-ptr-spec =

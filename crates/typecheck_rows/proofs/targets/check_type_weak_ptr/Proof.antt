@@ -53,7 +53,8 @@ returns-3 c = λ t.
     let target-is = c .before .before .before .before .before .target-is in
     let if3 = c .before .before .before .before .if3 in
     let row-error2 = c .before .before .row-error2 in
-    left _ _ (if1 .left) (left _ _ (if2 .left) (taken _ _ (if3 .taken) (row-error2 .ensures) (target-is .ensures)) (is-other-target .ensures)) (is-rust-target .ensures)
+    left _ _ (if1 .left) (left _ _ (if2 .left) (taken _ _ (if3 .taken) (row-error2 .ensures) (target-is .ensures)) (is-other-target .ensures))
+    (is-rust-target .ensures)
 
 row-error-requires-3 : tie.Need-row-error-requires-3
 row-error-requires-3 c κs = search needs
@@ -71,7 +72,8 @@ returns-4 c = λ t.
     let target-is = c .before .before .before .before .before .target-is in
     let if3 = c .before .before .before .before .if3 in
     let row-error3 = c .before .before .row-error3 in
-    left _ _ (if1 .left) (left _ _ (if2 .left) (left _ _ (if3 .left) ((row-error3 .ensures)) (target-is .ensures)) (is-other-target .ensures)) (is-rust-target .ensures)
+    left _ _ (if1 .left) (left _ _ (if2 .left) (left _ _ (if3 .left) ((row-error3 .ensures)) (target-is .ensures)) (is-other-target .ensures))
+    (is-rust-target .ensures)
 
 pub check-type-weak-ptr-spec : {M : Type 1} → statement M
 check-type-weak-ptr-spec =

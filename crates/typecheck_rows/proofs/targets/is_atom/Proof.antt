@@ -1,4 +1,4 @@
--- `typecheck_rows::targets::is_atom` meets its contract. Assumes nothing.
+-- `typecheck_rows::targets::is_atom` meets its contract: what its calls ensure, put together. Assumes nothing.
 use Rattle.rules.specs.Names.{isAtom}
 use mathlib.Core.Path.{refl}
 use Rattle.typecheck_rows.proofs.targets.is_atom.Statement.{statement}

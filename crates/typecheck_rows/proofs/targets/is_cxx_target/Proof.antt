@@ -1,4 +1,4 @@
--- `typecheck_rows::targets::is_cxx_target` meets its contract. Assumes nothing.
+-- `typecheck_rows::targets::is_cxx_target` meets its contract: what its calls ensure, put together. Assumes nothing.
 use borrow.Author.Needs.{needs}
 use Rattle.typecheck_rows.proofs.targets.is_cxx_target.Statement.{statement}
 use Rattle.typecheck_rows.proofs.targets.is_cxx_target.Tie as tie
@@ -44,7 +44,17 @@ returns c =
     let has3 = c .before .before .before .has3 in
     let and3 = c .before .before .and3 in
     let has4 = c .before .has4 in
-    rw (and3 .ensures, and2 .ensures, and .ensures, has .ensures, has2 .ensures, has3 .ensures, has4 .ensures, target-is .ensures, target-name .ensures) at (c .and4 .ensures)
+    rw (
+      and3 .ensures,
+      and2 .ensures,
+      and .ensures,
+      has .ensures,
+      has2 .ensures,
+      has3 .ensures,
+      has4 .ensures,
+      target-is .ensures,
+      target-name .ensures,
+    ) at (c .and4 .ensures)
 
 pub is-cxx-target-spec : {M : Type 1} → statement M
 is-cxx-target-spec =

@@ -1,4 +1,4 @@
--- `typecheck_rows::targets::is_other_target` meets its contract. Assumes nothing.
+-- `typecheck_rows::targets::is_other_target` meets its contract: what its calls ensure, put together. Assumes nothing.
 use borrow.Author.Needs.{needs}
 use Rattle.typecheck_rows.proofs.targets.is_other_target.Statement.{statement}
 use Rattle.typecheck_rows.proofs.targets.is_other_target.Tie as tie

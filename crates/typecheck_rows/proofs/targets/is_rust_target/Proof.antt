@@ -1,4 +1,4 @@
--- `typecheck_rows::targets::is_rust_target` meets its contract. Assumes nothing.
+-- `typecheck_rows::targets::is_rust_target` meets its contract: what its calls ensure, put together. Assumes nothing.
 use borrow.Author.Needs.{needs}
 use Rattle.typecheck_rows.proofs.targets.is_rust_target.Statement.{statement}
 use Rattle.typecheck_rows.proofs.targets.is_rust_target.Tie as tie

@@ -1,4 +1,4 @@
--- `typecheck_rows::targets::is_vector_element` meets its contract. Assumes nothing.
+-- `typecheck_rows::targets::is_vector_element` meets its contract: what its calls ensure, put together. Assumes nothing.
 use borrow.Author.Needs.{needs}
 use Rattle.typecheck_rows.proofs.targets.is_vector_element.Statement.{statement}
 use Rattle.typecheck_rows.proofs.targets.is_vector_element.Tie as tie

@@ -1,4 +1,4 @@
--- `typecheck_rows::targets::target_is` meets its contract. Assumes nothing.
+-- `typecheck_rows::targets::target_is` meets its contract: what its calls ensure, put together. Assumes nothing.
 use borrow.Author.Needs.{needs}
 use Rattle.typecheck_rows.proofs.targets.target_is.Statement.{statement}
 use Rattle.typecheck_rows.proofs.targets.target_is.Tie as tie
