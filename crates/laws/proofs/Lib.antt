@@ -24,4 +24,7 @@ pub mod Rule3Improper
 pub mod Accepted
 pub mod Collect
 pub mod Bounds
+pub mod Fuel
 pub mod Due
+pub mod Sound
+pub mod SmallReport

@@ -66,6 +66,11 @@ pub both-are : (a b : Bool) → (a && b) ≡ true → (a ≡ true) × (b ≡ tru
 both-are true b h = (refl, h)
 both-are false b h = never h
 
+-- a implies b
+pub implied : (a b : Bool) → (not a || b) ≡ true → a ≡ true → b ≡ true
+implied true b h e = h
+implied false b h e = never e
+
 -- ## Numbers
 
 pub bit-le : (b : Bool) → bit b ≤ 1
