@@ -1,43 +1,39 @@
--- Every diagnostic of an accepted sheet's full report has numbers that fit a record's fields (`small-report`): those of the checks by Sound.antt, message 1 by the number of items,
--- message 2 because the walk blames only fields of struct items.
+-- Every diagnostic of an accepted sheet's full report has numbers that fit a record's fields: its message, place and detail are those of Messages, and an
+-- accepted sheet has few rows, items, fields, arguments, derives and lifetimes.
 -- Assumes nothing.
-use Prim.Native.Nat.{ℕ, zero, suc, _+_, _≤_, _<_}
-use mathlib.Core.Path.{_≡_, refl, sym, ap, _∙_, subst}
-use mathlib.Core.Logic.{_≢_}
+use Prim.Native.Nat.{ℕ, zero, suc, _≤_, _<_}
+use mathlib.Core.Path.{_≡_, refl}
+use mathlib.Core.Logic.{_⊎_, inl, inr}
 use mathlib.Core.Bool.{Bool, true, false}
-use mathlib.Core.List.{List, [], _∷_, _++_}
+use mathlib.Core.List.{List}
 use native.Mathlib.Omega.{arith}
 use native.Mathlib.Decide.{decLt}
-use lib.Dec.{T, eqb}
-use lib.ListN.{length, getD, set, replicate, length-set, List·getD-eq-default}
+use lib.ListN.{length, getD, set, replicate}
 use lib.Seq.{getD-set-same, getD-set-other, set-out}
 use Rattle.rules.specs.declared.Place.{Place}
+use Rattle.rules.specs.declared.Place.the-variants.{R, G, I, F, A, O, D, L}
 use Rattle.rules.specs.declared.Diagnostic.{Diagnostic}
-use Rattle.rules.specs.Base.{over}
-use Rattle.rules.specs.Diagnostics.{tell, when, SmallPlace, Small}
+use Rattle.rules.specs.Diagnostics.{SmallPlace, Small}
 use Rattle.rules.specs.Format.{Accepted}
-use Rattle.rules.specs.View.{rows, items, itemName, fieldCount}
-use Rattle.rules.specs.Collect.{none, lastTo, duplicates}
-use Rattle.rules.specs.Types.{typesOf}
-use Rattle.rules.specs.Graph.{Graph}
-use Rattle.rules.specs.Walk.{Out, still, join, blame, flagged, seen, finished, fieldOut, fieldsOut, visitOut, itemOut, itemsOut, sortOut}
+use Rattle.rules.specs.View.{RustVec, rows, items, itemName, isType, isFunction, Impl, itemKind, lifetimeCount}
+use Rattle.rules.specs.Collect.{none as no-item, lastTo, duplicates}
+use Rattle.rules.specs.Types.{Types, typesOf}
 use Rattle.rules.specs.Order.{graphOf, walkOf}
+use Rattle.rules.specs.Check.{check-type, check-api}
 use Rattle.rules.specs.Report.{reportOf, report}
-use Rattle.laws.proofs.Chains.{Good}
-use Rattle.laws.proofs.Counts.{Eq?, same, other, eq?, eqb-false}
+use Rattle.laws.proofs.Counts.{Eq?, same, other, eq?}
+use Rattle.laws.proofs.Forms.{All, _&_, loop, all-map}
 use Rattle.laws.proofs.LastItems.{good, struct-is}
 use Rattle.laws.proofs.Accepted.{fits}
 use Rattle.laws.proofs.Accepted.Sheet.{sheet-of}
-use Rattle.laws.proofs.Accepted.Items.{item-of}
-use Rattle.laws.proofs.Sound.{Sound, All, none as no-more, more, _&_, said, loop, row-sound, item-sound}
-
--- what is sound is small
-smalls : {ds : List Diagnostic} → All Sound ds → All Small ds
-smalls no-more = no-more
-smalls (more p ps) = more (p .small) (smalls ps)
-
-small-one : (m : ℕ) {p : Place} → m < 256 → SmallPlace p → All Small (tell m p 0)
-small-one m {p} lm lp = more {x = record { message = m; place = p; detail = 0 }} (record { message = lm; place = lp; detail = omega arith }) no-more
+use Rattle.laws.proofs.Accepted.Rows.{row-of}
+use Rattle.laws.proofs.Accepted.Items.{ItemOf, item-of}
+use Rattle.laws.proofs.Bounds.Reasons.{reasons-few}
+use Rattle.laws.proofs.Collect.{all-below}
+use Rattle.laws.proofs.Messages.{OfDuplicate, ItemOnly, duplicates-told}
+use Rattle.laws.proofs.Messages.Rows.{RowPlace, between-is, row-told, row-range}
+use Rattle.laws.proofs.Messages.Items.{OfItem, ItemPlace, ItemDetail, item-told}
+use Rattle.laws.proofs.Messages.Walk.{OfField, FieldPlace, walk-told}
 
 -- ## Last items
 
@@ -46,95 +42,130 @@ same-get zero n d = refl
 same-get (suc k) zero d = refl
 same-get (suc k) (suc n) d = same-get k n d
 
-last-below : (s : List ℕ) (p : ℕ → Bool) (k : ℕ) → k ≤ 255 → (n : ℕ) → getD (lastTo s p k) n none < 256
+last-below : (s : List ℕ) (p : ℕ → Bool) (k : ℕ) → k ≤ 255 → (n : ℕ) → getD (lastTo s p k) n no-item < 256
 unfolding lastTo
-last-below s p zero l n = let e = same-get 256 n none in omega (arith, e)
+last-below s p zero l n = let e = same-get 256 n no-item in omega arith
 last-below s p (suc k) l n = go (p k) (last-below s p k (omega arith) n)
   where
     t : List ℕ
     t = lastTo s p k
 
-    stored : getD t n none < 256 → Eq? n (itemName s k) → getD (set t (itemName s k) k) n none < 256
-    stored h (other _ e) = rw (getD-set-other t (itemName s k) n k none e) h
+    stored : getD t n no-item < 256 → Eq? n (itemName s k) → getD (set t (itemName s k) k) n no-item < 256
+    stored h (other _ e) = rw (getD-set-other t (itemName s k) n k no-item e) h
     stored h (same _ e) = inside (decLt (itemName s k) (length t))
       where
-        inside : Dec (itemName s k < length t) → getD (set t (itemName s k) k) n none < 256
-        inside (yes q) = rw (e, getD-set-same t (itemName s k) k none q) (omega arith)
+        inside : Dec (itemName s k < length t) → getD (set t (itemName s k) k) n no-item < 256
+        inside (yes q) = rw (e, getD-set-same t (itemName s k) k no-item q) (omega arith)
         inside (no q) = rw (set-out t (itemName s k) k (omega arith)) h
 
-    go : (b : Bool) → getD t n none < 256 → getD {A = ℕ} (elim b as (λ _. List ℕ) [ true ↦ set t (itemName s k) k | false ↦ t ]) n none < 256
+    go : (b : Bool) → getD t n no-item < 256 → getD {A = ℕ} (elim b as (λ _. List ℕ) [ true ↦ set t (itemName s k) k | false ↦ t ]) n no-item < 256
     go true h = stored h (eq? n (itemName s k))
     go false h = h
 
--- ## The walk
+module _ (s : List ℕ) (acc : Accepted s) where
+  -- ## Rows
 
-blamed : (b : Bool) (i k : ℕ) → i < 256 → k < 256 → All Small (blame b i k)
-blamed true i k li lk = no-more
-blamed false i k li lk = small-one 2 (omega arith) (li, lk)
+  module _ (t : Types) (r : ℕ) (l : r < rows s) where
+    row-place : (p : Place) → RowPlace s r p → SmallPlace p
+    row-place (R q) (inl e) = omega (arith, sheet-of s acc .few-rows)
+    row-place (R q) (inr h) = let e = h .1 in let b = row-of s acc r l .inner-falls RustVec refl (h .0) in omega (arith, sheet-of s acc .few-rows)
+    row-place (G q j) h = let e = h .0 in (omega (arith, sheet-of s acc .few-rows), omega (arith, h .2, row-of s acc r l .few-args (h .1)))
+    row-place (I i) h = absurd h
+    row-place (F i j) h = absurd h
+    row-place (A i j) h = absurd h
+    row-place (O i) h = absurd h
+    row-place (D i j) h = absurd h
+    row-place (L i j) h = absurd h
 
-module _ (G : Graph) (n : ℕ) (good : Good G n) (few : (i : ℕ) → T (G .struct i) → G .fields i ≤ 256) where
-  abbrev Visits : (List ℕ → ℕ → Out) → Type 0
-  Visits v = (m : List ℕ) (j : ℕ) → T (G .struct j) → All Small (v m j .errors)
+    row-small : All Small (check-type s t r)
+    row-small =
+        all-map _ Small
+        (λ d h. record { message = (let b = row-range s r h in omega arith); place = row-place (d .place) (h .place); detail = (let x = h .detail in omega arith) })
+        (row-told s t r)
 
-  field-small : (v : List ℕ → ℕ → Out) → Visits v → (i k : ℕ) → T (G .struct i) → k < G .fields i → (m : List ℕ) → All Small (fieldOut v G i k m .errors)
-  unfolding fieldOut
-  field-small v h i k si l m = go (eqb (G .to i k) 255) refl
-    where
-      go : (b : Bool) → eqb (G .to i k) 255 ≡ b → All Small ((elim b as (λ _. Out) [ true ↦ still m | false ↦ flagged i k (v m (G .to i k)) ]) .errors)
-      go true e = no-more
-      go false e =
-          h m (G .to i k) (good .closed i k l (eqb-false (G .to i k) 255 e)) & blamed (v m (G .to i k) .ok) i k (omega (arith, good .below i si, good .few)) (omega (arith, few i si))
+  -- ## Items
 
-  fields-small : (v : List ℕ → ℕ → Out) → Visits v → (i k : ℕ) → T (G .struct i) → k ≤ G .fields i → (m : List ℕ) → All Small (fieldsOut v G i k m .errors)
-  unfolding fieldsOut
-  fields-small v h i zero si l m = no-more
-  fields-small v h i (suc k) si l m = fields-small v h i k si (omega arith) m & field-small v h i k si (omega arith) (fieldsOut v G i k m .marks)
+  module _ (t : Types) (lasts : (n : ℕ) → getD (t .lastUntrusted) n no-item < 256) (counts : (n : ℕ) → getD (t .reasons) n 0 < 65536) (i : ℕ) (l : i < items s) where
+    item : ItemOf s i
+    item = item-of s acc i l
 
-  visit-small : (f : ℕ) → Visits (visitOut f G)
-  unfolding visitOut
-  visit-small zero m i si = no-more
-  visit-small (suc f) m i si = go (eqb (getD m i 0) 0) (visit-small f)
-    where
-      go : (b : Bool) → Visits (visitOut f G) → All Small ((elim b as (λ _. Out) [ true ↦ finished i (fieldsOut (visitOut f G) G i (G .fields i) (set m i 1)) | false ↦ seen (eqb (getD m i 0) 2) m ]) .errors)
-      go true h = fields-small (visitOut f G) h i (G .fields i) si (omega arith) (set m i 1)
-      go false h = no-more
+    few : i < 256
+    few = omega (arith, sheet-of s acc .few-items)
 
-  item-small : (f i : ℕ) (m : List ℕ) → All Small (itemOut f G i m .errors)
-  unfolding itemOut
-  item-small f i m = go (G .struct i) refl
-    where
-      go : (b : Bool) → G .struct i ≡ b → All Small ((elim b as (λ _. Out) [ true ↦ visitOut f G m i | false ↦ still m ]) .errors)
-      go true e = visit-small f m i (subst T (sym e) tt)
-      go false e = no-more
+    lifetimes-few : (isType s i ≡ true) ⊎ ((isFunction s i ≡ true) ⊎ (itemKind s i ≡ Impl)) → lifetimeCount s i ≤ 8
+    lifetimes-few (inl e) = item .as-type e .lifetimes .few
+    lifetimes-few (inr (inl e)) = item .as-function e .lifetimes .few
+    lifetimes-few (inr (inr e)) = item .as-impl e .lifetimes .few
 
-  items-small : (f i : ℕ) (m : List ℕ) → All Small (itemsOut f G i m .errors)
-  unfolding itemsOut
-  items-small f zero m = no-more
-  items-small f (suc i) m = items-small f i m & item-small f i (itemsOut f G i m .marks)
+    item-place : (p : Place) → ItemPlace s t i p → SmallPlace p
+    item-place (R r) h = absurd h
+    item-place (G r j) h = absurd h
+    item-place (I k) (inl e) = omega (arith, few)
+    item-place (I k) (inr e) = omega (arith, lasts (itemName s i))
+    item-place (F k j) h = let e = h .0 in (omega (arith, few), omega (arith, h .2, item .as-struct (h .1) .few-fields))
+    item-place (A k j) h = let e = h .0 in (omega (arith, few), omega (arith, h .2, item .as-function (h .1) .few-args))
+    item-place (O k) h = omega (arith, few)
+    item-place (D k j) h = let e = h .0 in (omega (arith, few), omega (arith, h .2, item .as-type (h .1) .few-derives))
+    item-place (L k j) h = let e = h .0 in (omega (arith, few), omega (arith, h .2, lifetimes-few (h .1)))
 
-  sort-small : All Small (sortOut G n .errors)
-  unfolding sortOut
-  sort-small = items-small (suc n) n _
+    item-detail : (x : ℕ) → ItemDetail s t i x → x < 65536
+    item-detail x (inl h) = omega arith
+    item-detail x (inr (inl h)) = let e = item .as-enum (h .0) in omega (arith, h .1, e .few-defaults, e .few-variants)
+    item-detail x (inr (inr h)) = omega (arith, counts (itemName s i))
 
--- ## The full report
+    item-small : All Small (check-api s t i)
+    item-small = all-map (OfItem s t i) Small small (item-told s t i)
+      where
+        small : (d : Diagnostic) → OfItem s t i d → Small d
+        small d h =
+            let b = between-is 27 58 (d .message) (h .message) in
+            record { message = omega (arith, b .1); place = item-place (d .place) (h .place); detail = item-detail (d .detail) (h .detail) }
 
-module _ (s : List ℕ) (acc : Accepted s)
-    (rows-below : (k : ℕ) → k < length (typesOf s .all) → getD (typesOf s .all) k 0 < rows s)
-    (counts : (n : ℕ) → getD (typesOf s .reasons) n 0 < 65536) where
+  -- ## Messages 1 and 2
+
+  duplicate-place : (p : Place) → ItemOnly s p → SmallPlace p
+  duplicate-place (R r) h = absurd h
+  duplicate-place (G r j) h = absurd h
+  duplicate-place (I i) h = omega (arith, sheet-of s acc .few-items)
+  duplicate-place (F i j) h = absurd h
+  duplicate-place (A i j) h = absurd h
+  duplicate-place (O i) h = absurd h
+  duplicate-place (D i j) h = absurd h
+  duplicate-place (L i j) h = absurd h
+
   duplicates-small : All Small (duplicates s)
-  unfolding duplicates
-  duplicates-small = loop _ _ (λ i l. said _ (small-one 1 (omega arith) (omega (arith, sheet-of s acc .few-items))))
+  duplicates-small = all-map (OfDuplicate s) Small small (duplicates-told s)
+    where
+      small : (d : Diagnostic) → OfDuplicate s d → Small d
+      small d h = record { message = omega (arith, h .message); place = duplicate-place (d .place) (h .place); detail = omega (arith, h .detail) }
 
-  lasts : (n : ℕ) → getD (typesOf s .lastUntrusted) n none < 256
-  unfolding typesOf
-  lasts = last-below s _ (items s) (sheet-of s acc .few-items)
+  field-place : (p : Place) → FieldPlace (graphOf s (typesOf s)) p → SmallPlace p
+  field-place (R r) h = absurd h
+  field-place (G r j) h = absurd h
+  field-place (I i) h = absurd h
+  field-place (F i j) h =
+      let k = struct-is s i .0 (h .0) in
+      (omega (arith, k .below, sheet-of s acc .few-items), omega (arith, h .1, item-of s acc i (k .below) .as-struct (k .is-struct) .few-fields))
+  field-place (A i j) h = absurd h
+  field-place (O i) h = absurd h
+  field-place (D i j) h = absurd h
+  field-place (L i j) h = absurd h
 
   walk-small : All Small (walkOf s (typesOf s) .errors)
   unfolding walkOf
-  walk-small = sort-small (graphOf s (typesOf s)) 255 (good s (fits s acc)) (λ i si. let h = struct-is s i .0 si in omega (arith, item-of s acc i (h .below) .as-struct (h .is-struct) .few-fields))
+  walk-small = all-map (OfField (graphOf s (typesOf s))) Small small (walk-told (graphOf s (typesOf s)) 255 (good s (fits s acc)))
+    where
+      small : (d : Diagnostic) → OfField (graphOf s (typesOf s)) d → Small d
+      small d h = record { message = omega (arith, h .message); place = field-place (d .place) (h .place); detail = omega (arith, h .detail) }
+
+  -- ## The full report
+
+  lasts : (n : ℕ) → getD (typesOf s .lastUntrusted) n no-item < 256
+  unfolding typesOf
+  lasts = last-below s _ (items s) (sheet-of s acc .few-items)
 
   pub small-report : All Small (report s)
   unfolding report reportOf
   small-report =
-      duplicates-small & walk-small & loop _ _ (λ k l. smalls (row-sound s (typesOf s) acc (getD (typesOf s .all) k 0) (rows-below k l)))
-      & loop _ _ (λ i l. smalls (item-sound s (typesOf s) acc lasts counts i l))
+      duplicates-small & walk-small & loop _ _ (λ k l. row-small (typesOf s) (getD (typesOf s .all) k 0) (all-below s acc k l))
+      & loop _ _ (λ i l. item-small (typesOf s) lasts (λ n. omega (arith, reasons-few s acc n)) i l)
