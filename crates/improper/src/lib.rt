@@ -7,7 +7,8 @@ ghost use Rattle.rules.specs.Names.{Words, _∋_, add};
 ghost use Rattle.rules.specs.View.{rows};
 ghost use Rattle.rules.specs.Types.{Types, typesOf};
 ghost use Rattle.rules.specs.Improper.{definite, lookName, lookRow, looksOf, hits};
-ghost use Rattle.improper.specs.Looks.{lookOf, through, improperKind, Sets, Table};
+ghost use Rattle.laws.proofs.Fuel.{isThrough};
+ghost use Rattle.improper.specs.Looks.{lookOf, improperKind, Sets, Table};
 ghost use Rattle.improper.specs.Post.{Collected, Looked, Passes, Searched};
 use rules::NameSet;
 use sheet::items;
@@ -59,7 +60,7 @@ fn look_name(sets: &[u64; 28], n: u16) -> u16
 
 // The kinds of rows that are looked through: Ref, Ptr and Array.
 fn is_through(k: u16) -> bool
-    ensures { λ r. ⌜ r ≡ through k ⌝ }
+    ensures { λ r. ⌜ r ≡ isThrough k ⌝ }
 {
     or(or(k == kinds::REF, k == kinds::PTR), k == kinds::ARRAY)
 }

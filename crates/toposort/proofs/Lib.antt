@@ -2,5 +2,4 @@ pub mod Edges
 pub mod Parts
 pub mod Turns
 pub mod Sorting
-pub mod WalkRule
 pub mod TierTurns

@@ -20,7 +20,7 @@ use Rattle.toposort.specs.declared.Walk.{Walk}
 use Rattle.toposort.specs.State.{Did, Visits, Room}
 use Rattle.toposort.specs.Post.{Sorts}
 use Rattle.toposort.proofs.Parts.{did-still, did-join, Spends, Bounded, spends-items, room-after}
-use Rattle.toposort.proofs.WalkRule.{walk-rule}
+use Rattle.laws.proofs.Due.{walk-rule}
 
 -- nothing is marked
 abbrev pub begun : Errors → Walk
