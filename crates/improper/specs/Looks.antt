@@ -7,7 +7,7 @@ use mathlib.Core.List.{List}
 use lib.Dec.{ltb, eqb}
 use lib.ListN.{length, getD}
 use Rattle.rules.specs.Base.{if_then_else_}
-use Rattle.rules.specs.View.{RustBox, RustVec, Ref, Ptr, Str, SliceRef, Array, Fn, Void, rows}
+use Rattle.rules.specs.View.{RustBox, RustVec, Str, SliceRef, Fn, Void, rows}
 use Rattle.rules.specs.Types.{Types, typesOf}
 use Rattle.rules.specs.Improper.{Look, fine, bad, to, lookRow}
 use Rattle.names.specs.Table.{wordsAt}
@@ -16,10 +16,7 @@ use Rattle.names.specs.Table.{wordsAt}
 unfoldable pub lookOf : ℕ → Look
 lookOf c = if ltb c 256 then to c else if eqb c 256 then bad else fine
 
--- the kinds of rows that are looked through, and those that are improper by themselves
-abbrev pub through : (kind : ℕ) → Bool
-through k = eqb k Ref || eqb k Ptr || eqb k Array
-
+-- the kinds of rows that are improper by themselves
 abbrev pub improperKind : (kind : ℕ) → Bool
 improperKind k = eqb k RustBox || eqb k RustVec || eqb k Str || eqb k Fn || eqb k Void || eqb k SliceRef
 

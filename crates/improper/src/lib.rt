@@ -7,12 +7,26 @@ ghost use Rattle.rules.specs.Names.{Words, _∋_, add};
 ghost use Rattle.rules.specs.View.{rows};
 ghost use Rattle.rules.specs.Types.{Types, typesOf};
 ghost use Rattle.rules.specs.Improper.{definite, lookName, lookRow, looksOf, hits};
-ghost use Rattle.improper.specs.Looks.{lookOf, through, improperKind, Sets, Table};
+ghost use Rattle.laws.proofs.Fuel.{isThrough};
+ghost use Rattle.improper.specs.Looks.{lookOf, improperKind, Sets, Table};
 ghost use Rattle.improper.specs.Post.{Collected, Looked, Passes, Searched};
 use rules::NameSet;
 use sheet::items;
 use sheet::logic::or;
 use sheet::rows;
+
+mod kinds; // kinds of rows
+
+// A name, sets of the table, and no item.
+const RUST_STRING: u16 = 15;
+
+const STRUCTS: usize = 0;
+
+const RUST: usize = 3;
+
+const ALIASES: usize = 4;
+
+const NO_ITEM: u8 = 255;
 
 // What a row is, as a number: a name whose last struct decides, or one of these.
 const IMPROPER: u16 = 256;
@@ -36,28 +50,32 @@ fn look_name(sets: &[u64; 28], n: u16) -> u16
     ensures { λ r. ⌜ ((s : List ℕ) (t : Types) → Sets (now (sets .entry)) t → lookOf r ≡ lookName s t n) ⌝ }
 {
     if n < 16 {
-        return definite(n == 15);
+        return definite(n == RUST_STRING);
     }
-    if names::has(sets, 0, n) {
+    if names::has(sets, STRUCTS, n) {
         return n;
     }
-    definite(or(names::has(sets, 3, n), names::has(sets, 4, n)))
+    definite(or(names::has(sets, RUST, n), names::has(sets, ALIASES, n)))
 }
 
 // The kinds of rows that are looked through: Ref, Ptr and Array.
 fn is_through(k: u16) -> bool
-    ensures { λ r. ⌜ r ≡ through k ⌝ }
+    ensures { λ r. ⌜ r ≡ isThrough k ⌝ }
 {
-    or(or(k == 7, k == 8), k == 11)
+    or(or(k == kinds::REF, k == kinds::PTR), k == kinds::ARRAY)
 }
 
 // Those that are improper by themselves: Box, Vec, str, Fn, Void and slice.
 fn is_improper(k: u16) -> bool
     ensures { λ r. ⌜ r ≡ improperKind k ⌝ }
 {
+    let owned = or(
+        or(k == kinds::RUST_BOX, k == kinds::RUST_VEC),
+        k == kinds::STR,
+    );
     or(
-        or(or(or(or(k == 1, k == 2), k == 9), k == 12), k == 13),
-        k == 10,
+        or(or(owned, k == kinds::FN), k == kinds::VOID),
+        k == kinds::SLICE_REF,
     )
 }
 
@@ -68,7 +86,7 @@ fn look_row(s: &[u8], sets: &[u64; 28], looks: &[u16; 1024], r: u16) -> u16
     ensures { λ x. ⌜ lookOf x ≡ lookRow (now (s .entry)) (typesOf (now (s .entry))) (rows (now (s .entry))) r ⌝ }
 {
     let k = rows::kind(s, r);
-    if k == 0 {
+    if k == kinds::IDENT {
         return look_name(sets, rows::row_name(s, r));
     }
     if is_through(k) {
@@ -119,7 +137,7 @@ fn one_pass(s: &[u8], looks: &[u16; 1024], last: &[u8; 256], before: NameSet) ->
             continue 'structs;
         }
         let i = last[name as usize];
-        if i == 255 {
+        if i == NO_ITEM {
             continue 'structs;
         }
         let at = items::rest(s, i as u16);

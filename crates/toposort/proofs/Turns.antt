@@ -79,10 +79,6 @@ pub record Going (G : Graph) (b : List ℕ) (i : ℕ) (v₀ : Walk) (n k : ℕ) 
   pub place : v₀ .len + fresh (v₀ .marks) < 255
   pub done : (f : ℕ) → fresh (v₀ .marks) < f → Done b v₀ (fieldsOut (visitOut f G) G i k (v₀ .marks)) v b′
 
-and-assoc : (a b c : Bool) → (a && b) && c ≡ a && (b && c)
-and-assoc true b c = refl
-and-assoc false b c = refl
-
 module _ {G : Graph} (lim : Bounded G) {b : List ℕ} {i : ℕ} {v₀ : Walk} {n k : ℕ} {b′ : List ℕ} {v : Walk} (g : Going G b i v₀ n k b′ v) where
   enough : ℕ
   enough = suc (fresh (v₀ .marks))

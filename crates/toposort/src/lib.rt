@@ -16,7 +16,29 @@ use errors::Errors;
 use sheet::items;
 use sheet::rows;
 
-// The walk's state. marks: 0 new, 1 being visited, 2 visited, as `Mark` of the port; order: the first len places; calls: the visits so far;
+// Kinds of a row and of an item, and no item.
+const IDENT: u16 = 0;
+
+const STRUCT: u16 = 1;
+
+const NO_ITEM: u8 = 255;
+
+// Marks of an item: `Mark` of toposort.rs.
+const NEW: u8 = 0;
+
+const VISITING: u8 = 1;
+
+const VISITED: u8 = 2;
+
+// The message of a field whose visit failed.
+const CYCLIC: u8 = 2;
+
+// The tier where a chain never ends, and the highest of the others.
+const ENDLESS: u8 = 255;
+
+const HIGHEST: u8 = 254;
+
+// The walk's state. marks: by item; order: the first len places; calls: the visits so far;
 // ok: whether the last visit succeeded.
 pub struct Walk {
     pub marks: [u8; 255],
@@ -39,23 +61,23 @@ fn is_struct(s: &[u8], i: u8) -> bool
     ensures { λ r. ⌜ r ≡ (ltb i (items (now (s .entry))) && itemIs (now (s .entry)) Struct i) ⌝ }
 {
     let item = i as u16;
-    sheet::logic::and(item < items::items(s), items::item_is(s, 1, item))
+    sheet::logic::and(item < items::items(s), items::item_is(s, STRUCT, item))
 }
 
-// The item that a field leads to, or 255: field k of the struct whose fields stand at a place. A plain name leads to its last struct, atoms
+// The item that a field leads to, or none: field k of the struct whose fields stand at a place. A plain name leads to its last struct, atoms
 // included.
 fn leads_to(s: &[u8], last: &[u8; 256], at: u32, k: u16) -> u8
     requires { ⌜ Collected (now s) (now last) ⌝ }
     ensures { λ r. ⌜ ((i : ℕ) → at ≡ rest (now (s .entry)) i → r ≡ leadsTo (now (s .entry)) (typesOf (now (s .entry))) i k) ⌝ }
 {
     let row = items::entry(s, at, k);
-    if rows::is(s, 0, row) {
+    if rows::is(s, IDENT, row) {
         let name = rows::row_name(s, row) as usize;
         if name < 256 {
             return last[name];
         }
     }
-    255
+    NO_ITEM
 }
 
 // Visits item i: a depth-first walk. Meeting a struct that is still being visited fails, and so does every visit above it; each field whose visit
@@ -69,11 +91,11 @@ fn visit(s: &[u8], last: &[u8; 256], out: &mut [u64], w: Walk, i: u8) -> Walk
     u.calls = w.calls + 1;
     let place = i as usize;
     let mark = u.marks[place];
-    if mark != 0 {
-        u.ok = mark == 2;
+    if mark != NEW {
+        u.ok = mark == VISITED;
         return u;
     }
-    u.marks[place] = 1;
+    u.marks[place] = VISITING;
     u.ok = true;
     let item = i as u16;
     let at = items::rest(s, item);
@@ -84,19 +106,19 @@ fn visit(s: &[u8], last: &[u8; 256], out: &mut [u64], w: Walk, i: u8) -> Walk
         let field = k;
         k += 1;
         let inner = leads_to(s, last, at, field);
-        if inner != 255 {
+        if inner != NO_ITEM {
             let ok = u.ok;
             u = visit(s, last, out, u, inner);
             if u.ok {
                 u.ok = ok;
             } else {
                 let cx = u.errors;
-                let cx = errors::at::field_error(cx, out, true, 2, item, field, 0);
+                let cx = errors::at::field_error(cx, out, true, CYCLIC, item, field, 0);
                 u.errors = cx;
             }
         }
     }
-    u.marks[place] = 2;
+    u.marks[place] = VISITED;
     let len = u.len;
     u.order[len] = i;
     u.len = len + 1;
@@ -109,7 +131,7 @@ pub fn sort(s: &[u8], last: &[u8; 256], cx: Errors, out: &mut [u64]) -> Sorted
     ensures { λ r. ⌜ Sorts (now (s .entry)) (now (out .entry)) cx r (now (out .exit)) ⌝ }
 {
     let mut w = Walk {
-        marks: [0; 255],
+        marks: [NEW; 255],
         order: [0; 255],
         len: 0,
         calls: 0,
@@ -138,11 +160,11 @@ pub fn sort(s: &[u8], last: &[u8; 256], cx: Errors, out: &mut [u64]) -> Sorted
 fn above(t: u8) -> u8
     ensures { λ r. ⌜ r ≡ up t ⌝ }
 {
-    if t == 255 {
-        return 255;
+    if t == ENDLESS {
+        return ENDLESS;
     }
-    if t == 254 {
-        return 254;
+    if t == HIGHEST {
+        return HIGHEST;
     }
     t + 1
 }
@@ -165,7 +187,7 @@ fn tier_from(s: &[u8], last: &[u8; 256], tiers: &[u8; 255], i: u8) -> u8
     while j < fields {
         let inner = leads_to(s, last, at, j);
         j += 1;
-        if inner != 255 {
+        if inner != NO_ITEM {
             let held = tiers[inner as usize];
             best = larger(best, above(held));
         }
@@ -183,7 +205,7 @@ fn unknown_tiers(s: &[u8]) -> [u8; 255]
         let item = i;
         i += 1;
         if is_struct(s, item) {
-            tiers[item as usize] = 255;
+            tiers[item as usize] = ENDLESS;
         }
     }
     tiers

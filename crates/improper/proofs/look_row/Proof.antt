@@ -9,7 +9,8 @@ use borrow.Author.Needs.{needs}
 use Rattle.rules.specs.View.{Ident, kind}
 use Rattle.rules.specs.Types.{typesOf}
 use Rattle.rules.specs.Improper.{definite}
-use Rattle.improper.specs.Looks.{lookOf, through, improperKind}
+use Rattle.laws.proofs.Fuel.{isThrough}
+use Rattle.improper.specs.Looks.{lookOf, improperKind}
 use Rattle.improper.proofs.RowLooks.{inner-falls, row-named, row-through, row-definite, few-rows}
 use Rattle.improper.proofs.look_row.Statement.{statement}
 use Rattle.improper.proofs.look_row.Tie as tie
@@ -47,7 +48,7 @@ mul-result c = search needs
 
 -- a row that is looked through
 module _ (c : tie.After-inner) where
-  seen : through (kind (c .before .before .before .before .before .before .args .s .now) (c .before .before .before .before .before .before .args .r)) ≡ true
+  seen : isThrough (kind (c .before .before .before .before .before .before .args .s .now) (c .before .before .before .before .before .before .args .r)) ≡ true
   seen = rw (← (c .before .before .before .before .kind .ensures)) (sym (c .before .before .is-through .ensures) ∙ c .before .if2 .taken)
 
   falls : c .inner .result < c .before .before .before .before .before .before .args .r
@@ -87,7 +88,7 @@ returns-3 c =
     let s = c7 .args .s .now in
     let p = c7 .pre in
     let ne : kind s (c7 .args .r) ≢ Ident = λ q. c4 .if1 .left (c5 .kind .ensures ∙ q) in
-    let past : through (kind s (c7 .args .r)) ≡ false = rw (← (c5 .kind .ensures)) (sym (c3 .is-through .ensures) ∙ c2 .if2 .left) in
+    let past : isThrough (kind s (c7 .args .r)) ≡ false = rw (← (c5 .kind .ensures)) (sym (c3 .is-through .ensures) ∙ c2 .if2 .left) in
     let e : lookOf (c .definite .result) ≡ definite (improperKind (kind s (c7 .args .r))) =
     rw (c .before .is-improper .ensures, c5 .kind .ensures) at (c .definite .ensures) in
     e ∙ sym (row-definite s (p .0 .0) (c7 .args .r) (p .0 .1) ne past)
