@@ -16,28 +16,54 @@ tiers-requires : tie.Need-tiers-requires
 tiers-requires c κs = search needs
 
 search-requires : tie.Need-search-requires
-search-requires c κs = record { accepted = c .before .before .before .before .before .before .before .before .before .before .before .before .before .before .before .before .before .before .before .before .before .before .before .before .before .pre .accepted; sets = record { structs = c .before .before .before .before .before .before .before .before .before .before .before .before .before .before .before .before .before .before .before .collect .ensures .types .structs; rust = c .before .before .before .before .before .before .before .before .before .before .before .before .before .before .before .before .before .before .before .collect .ensures .types .rust; aliases = c .before .before .before .before .before .before .before .before .before .before .before .before .before .before .before .before .before .before .before .collect .ensures .types .aliases }; last = c .before .before .before .before .before .before .before .before .before .before .before .before .before .before .before .before .before .before .before .collect .ensures .types .lastStruct }
+search-requires c κs =
+    let collected = c .before .before .before .before .before .before .before .before .before .before .before .before .before .before .before .before .before .before .before in
+    let start = collected .before .before .before .before .before .before in
+    let t = collected .collect .ensures .types in
+    record { accepted = start .pre .accepted; sets = record { structs = t .structs; rust = t .rust; aliases = t .aliases }; last = t .lastStruct }
 
 do-typecheck-requires : tie.Need-do-typecheck-requires
-do-typecheck-requires c κs = c .before .before .before .before .before .before .before .before .before .before .before .before .before .before .before .before .before .before .before .before .before .before .before .before .before .before .before .before .before .before .before .before .before .before .before .before .pre .accepted
+do-typecheck-requires c κs =
+    let sorted = c .before .before .before .before .before .before .before .before .before .before .before .before .before .before .before .before .before .before .before .before in
+    let start = sorted .before .before .before .before .before .before .before .before .before .before .before .before .before .before .before .before in
+    start .pre .accepted
 
 clear-requires : tie.Need-clear-requires
-clear-requires c κs = omega (arith, c .before .before .before .before .before .before .before .before .before .before .before .before .before .before .before .before .before .before .before .before .before .before .before .before .before .before .before .before .before .before .before .before .before .before .collect .ensures .same, c .before .before .before .before .before .before .before .before .before .before .before .before .before .before .before .before .before .before .before .before .before .before .before .before .before .before .before .before .before .before .before .before .before .before .before .before .before .before .before .before .pre .long)
+clear-requires c κs =
+    let sorted = c .before .before .before .before .before .before .before .before .before .before .before .before .before .before .before .before .before .before .before .before in
+    let collected = sorted .before .before .before .before .before .before .before .before .before .before .before .before .before .before in
+    let start = collected .before .before .before .before .before .before in
+    omega (arith, collected .collect .ensures .same, start .pre .long)
 
 accepted-requires : tie.Need-accepted-requires
 accepted-requires c κs = search needs
 
 same-length : tie.Need-same-length
-same-length c = c .before .before .before .before .clear .kept .0 ∙ c .before .before .before .before .before .before .before .before .before .before .before .before .before .before .before .before .before .before .before .before .before .before .before .before .before .before .before .before .before .before .before .before .before .before .before .before .before .before .before .collect .kept .1 .0
+same-length c =
+    let cleared = c .before .before .before .before in
+    let sorted = cleared .before .before .before .before .before .before .before .before .before .before .before .before .before .before .before .before in
+    let collected = sorted .before .before .before .before .before .before .before .before .before .before .before .before .before .before .before .before .before .before .before in
+    cleared .clear .kept .0 ∙ collected .collect .kept .1 .0
 
 same-length-2 : tie.Need-same-length-2
-same-length-2 c = c .before .before .before .before .before .before .before .before .do-typecheck .kept .1 .1 .1 .1 .1 .1 .1 .1 .0 ∙ c .before .before .before .before .before .before .before .before .before .before .before .before .before .before .before .before .before .before .before .before .before .before .before .before .before .before .before .before .before .sort .kept .1 .1 .1 .0 ∙ c .before .before .before .before .before .before .before .before .before .before .before .before .before .before .before .before .before .before .before .before .before .before .before .before .before .before .before .before .before .before .before .before .before .before .before .before .before .before .before .collect .kept .1 .1 .1 .0
+same-length-2 c =
+    let checked-all = c .before .before .before .before .before .before .before .before in
+    let sorted = checked-all .before .before .before .before .before .before .before .before .before .before .before .before .before .before .before .before .before .before .before .before .before in
+    let collected = sorted .before .before .before .before .before .before .before .before .before .before in
+    checked-all .do-typecheck .kept .1 .1 .1 .1 .1 .1 .1 .1 .0 ∙ sorted .sort .kept .1 .1 .1 .0 ∙ collected .collect .kept .1 .1 .1 .0
 
 returns : tie.Need-returns
 returns c =
-    let collected = c .before .before .before .before .before .before .before .before .before .before .before .before .before .before .before .before .before .before .before .before .before .before .before .before .before .before .before .before .before .before .before .before .before .before .before .before .before .before .before .collect .ensures in
-    let told = c .before .before .before .before .before .before .before .before .do-typecheck .ensures (given collected) in
-    checked collected (c .before .before .before .before .before .before .before .before .before .before .before .before .before .before .before .before .before .before .before .before .before .before .before .before .before .before .before .before .before .sort .ensures) told (c .before .before .before .before .before .before .before .before .before .before .before .before .before .before .before .before .before .before .before .before .before .before .before .before .before .before .before .before .before .before .before .before .before .before .before .before .before .before .before .before .before .before .before .before .before .pre .accepted) refl (c .before .before .before .before .before .before .before .before .before .before .before .before .before .before .before .before .before .before .before .before .before .before .before .tiers .ensures) (c .before .before .before .before .before .before .before .before .before .before .before .before .before .before .before .before .before .before .before .search .ensures) (c .before .before .before .before .clear .ensures) (c .accepted .ensures)
+    let cleared = c .before .before .before .before in
+    let checks = cleared .before .before .before .before in
+    let searched = checks .before .before .before .before .before .before .before .before .before .before .before in
+    let tiered = searched .before .before .before .before in
+    let sorted = tiered .before .before .before .before .before .before in
+    let collected = sorted .before .before .before .before .before .before .before .before .before .before in
+    let start = collected .before .before .before .before .before .before in
+    let found = collected .collect .ensures in
+    let told = checks .do-typecheck .ensures (given found) in
+    checked found (sorted .sort .ensures) told (start .pre .accepted) refl (tiered .tiers .ensures) (searched .search .ensures) (cleared .clear .ensures) (c .accepted .ensures)
 
 pub run-spec : {M : Type 1} → statement M
 run-spec =
