@@ -4,7 +4,7 @@ use borrow.Author.Needs.{needs}
 use mathlib.Core.Path.{sym, _∙_}
 use native.Mathlib.Omega.{arith}
 use Rattle.types.specs.Scratch.{rowsOf}
-use Rattle.types.proofs.Room.{room-less}
+use Rattle.types.proofs.AboutRules.{room-less}
 use Rattle.types.proofs.Stored.{added}
 use Rattle.types.proofs.rows.add.Statement.{statement}
 use Rattle.types.proofs.rows.add.Tie as tie
