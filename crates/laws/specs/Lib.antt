@@ -1,3 +1,5 @@
 pub mod Skip
 pub mod Reach
 pub mod Visits
+pub mod LifetimeMut
+pub mod Tells

@@ -29,7 +29,9 @@ module _ (s : List ℕ) (whole : Bool) (i j : ℕ) where
   bytes-differ zero h l e f d = absurd (omega arith)
   bytes-differ (suc k) h l e f d = sym (rw (ne-eqb (getD s i 0) (getD s j 0) (λ q. d (e ∙ q ∙ sym f)), sameBytes) at h)
 
-  pub bytes-agree : (left : ℕ) {x y : ℕ} → whole ≡ sameBytes s left i j → 0 < left → x ≡ getD s i 0 → y ≡ getD s j 0 → x ≡ y → whole ≡ sameBytes s (left - 1) (i + 1) (j + 1)
+  pub bytes-agree :
+      (left : ℕ) {x y : ℕ} → whole ≡ sameBytes s left i j → 0 < left → x ≡ getD s i 0 → y ≡ getD s j 0 → x ≡ y
+      → whole ≡ sameBytes s (left - 1) (i + 1) (j + 1)
   unfolding sameBytes
   bytes-agree zero h l e f d = absurd (omega arith)
   bytes-agree (suc k) h l e f d = rw (sub-one (suc k)) (rw (eq-eqb (getD s i 0) (getD s j 0) (sym e ∙ d ∙ f), sameBytes) at h)
@@ -39,17 +41,20 @@ module _ (s : List ℕ) (whole : Bool) (i j : ℕ) where
   bytes-end zero h l = sym h
   bytes-end (suc k) h l = absurd (omega arith)
 
-module _ (s : List ℕ) (i r next : ℕ) {a b e n m : ℕ} (ea : a ≡ offset s i) (eb : b ≡ offset s r) (ee : e ≡ offset s (i + 1)) (en : n ≡ e - a) (em : m ≡ next - b) where
-  lengths : n ≡ offset s (i + 1) - offset s i
-  lengths = rw (← ea, ← ee) en
+module _
+    (s : List ℕ) (i r next : ℕ) {a b e n m : ℕ} (ea : a ≡ offset s i) (eb : b ≡ offset s r) (ee : e ≡ offset s (i + 1))
+    (en : n ≡ e - a) (em : m ≡ next - b)
+  where
+    lengths : n ≡ offset s (i + 1) - offset s i
+    lengths = rw (← ea, ← ee) en
 
-  pub rows-alike : {x : Bool} → n ≡ m → x ≡ sameBytes s n a b → x ≡ equalRows s i r next
-  unfolding equalRows
-  rows-alike q h = rw (eq-eqb (offset s (i + 1) - offset s i) (next - offset s r) (sym lengths ∙ q ∙ rw (← eb) em), equalRows) (rw (← lengths, ← ea, ← eb) h)
+    pub rows-alike : {x : Bool} → n ≡ m → x ≡ sameBytes s n a b → x ≡ equalRows s i r next
+    unfolding equalRows
+    rows-alike q h = rw (eq-eqb (offset s (i + 1) - offset s i) (next - offset s r) (sym lengths ∙ q ∙ rw (← eb) em), equalRows) (rw (← lengths, ← ea, ← eb) h)
 
-  pub rows-unlike : (n ≡ m → ⊥) → false ≡ equalRows s i r next
-  unfolding equalRows
-  rows-unlike q = rw (ne-eqb (offset s (i + 1) - offset s i) (next - offset s r) (λ z. q (lengths ∙ z ∙ sym (rw (← eb) em))), equalRows)
+    pub rows-unlike : (n ≡ m → ⊥) → false ≡ equalRows s i r next
+    unfolding equalRows
+    rows-unlike q = rw (ne-eqb (offset s (i + 1) - offset s i) (next - offset s r) (λ z. q (lengths ∙ z ∙ sym (rw (← eb) em))), equalRows)
 
 module _ (s : List ℕ) (r next : ℕ) (whole : Bool) where
   pub fresh-seen : (i : ℕ) {x : Bool} → whole ≡ fresh s i r next → 0 < i → x ≡ equalRows s (i - 1) r next → x ≡ true → false ≡ whole
@@ -224,7 +229,9 @@ module _
     pub sought : r ≤ 1024 → Sought s keys more r k m p
     sought l = record { few = l; own = rw e ek; own2 = rw e em; others = inv e .held; others2 = inv e .held2 }
 
-    pub kept-again : r < length keys → r < length more → length seen ≡ 16384 → offset s (r + 1) ≡ p → Kept s (set keys r k) (set more r m) (set seen (k % 16384) 1) (r + 1)
+    pub kept-again :
+        r < length keys → r < length more → length seen ≡ 16384 → offset s (r + 1) ≡ p
+        → Kept s (set keys r k) (set more r m) (set seen (k % 16384) 1) (r + 1)
     unfolding rowKey
     kept-again lk lm ls ep =
         let own : rowKey s 0 r ≡ k = rw (e, ep) (sym ek) in

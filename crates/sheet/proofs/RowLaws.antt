@@ -39,4 +39,5 @@ module _ (s : List ℕ) (r at : ℕ) where
       past (suc (suc (suc (suc zero)))) e = absurd (h11 e)
       past (suc (suc (suc (suc (suc zero))))) e = absurd (h12 e)
       past (suc (suc (suc (suc (suc (suc zero)))))) e = rw e
-      past (suc (suc (suc (suc (suc (suc (suc j))))))) e = let q : k ≡ suc (suc (suc (suc (suc (suc (suc (suc (suc (suc (suc (suc (suc (suc j))))))))))))) = omega arith in rw q
+      past (suc (suc (suc (suc (suc (suc (suc j))))))) e =
+          let q : k ≡ suc (suc (suc (suc (suc (suc (suc (suc (suc (suc (suc (suc (suc (suc j))))))))))))) = omega arith in rw q

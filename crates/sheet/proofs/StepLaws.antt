@@ -4,30 +4,43 @@
 use Prim.Native.Nat.{ℕ, zero, suc, _+_, _-_, _≤_, _<_}
 use mathlib.Core.Path.{_≡_, refl, sym, ap, _∙_}
 use mathlib.Core.List.{List}
+use mathlib.Core.Bool.{Bool, true, false}
 use native.Mathlib.Omega.{arith}
+use native.Mathlib.Decide.{decLe}
 use native.Mathlib.Numerals.{sub-one}
 use lib.ListN.{length}
-use borrow.Author.Tests.{lt-ltb, le-ltb, le-leb, lt-leb, ne-eqb}
+use lib.Dec.{leb}
+use borrow.Author.Tests.{lt-ltb, le-ltb, le-leb, lt-leb, leb-true, ne-eqb}
 use Rattle.rules.specs.declared.Step.{Step}
 use Rattle.rules.specs.declared.Step.the-variants.{Next, Refused}
 use Rattle.rules.specs.Format.{after, pairAt, one, limited, orNone, times, each}
 
-module _ (s : List ℕ) (at w n : ℕ) where
-  pub limited-short : length s < 2 → Refused 5 (length s) ≡ limited s w n at
-  unfolding limited one
-  limited-short h = simp (lt-leb (at + 2) (length s) (omega arith))
+module _ (s : List ℕ) (at : ℕ) where
+  pub pair-short : length s < 2 → false ≡ leb (at + 2) (length s)
+  pair-short h = sym (lt-leb (at + 2) (length s) (omega arith))
 
-  pub limited-cut : length s - 2 < at → Refused 5 (length s) ≡ limited s w n at
-  unfolding limited one
-  limited-cut h = simp (lt-leb (at + 2) (length s) (omega arith))
+  pub pair-whole : 2 ≤ length s → leb at (length s - 2) ≡ leb (at + 2) (length s)
+  pair-whole h = by (decLe at (length s - 2))
+    where
+      by : Dec (at ≤ length s - 2) → leb at (length s - 2) ≡ leb (at + 2) (length s)
+      by (yes l) = le-leb at (length s - 2) l ∙ sym (le-leb (at + 2) (length s) (omega arith))
+      by (no l) = lt-leb at (length s - 2) (omega arith) ∙ sym (lt-leb (at + 2) (length s) (omega arith))
 
-  pub limited-next : {v : ℕ} → 2 ≤ length s → at ≤ length s - 2 → v ≡ pairAt s at → v < n → Next (at + 2) ≡ limited s w n at
-  unfolding limited one
-  limited-next h k e l = simp (le-leb (at + 2) (length s) (omega arith), lt-ltb (pairAt s at) n (rw e at l))
+  pub pair-fits : {b : Bool} → b ≡ leb (at + 2) (length s) → b ≡ true → at + 2 ≤ length s
+  pair-fits e h = leb-true (at + 2) (length s) (sym e ∙ h)
 
-  pub limited-bad : {v : ℕ} → 2 ≤ length s → at ≤ length s - 2 → v ≡ pairAt s at → n ≤ v → Refused w at ≡ limited s w n at
-  unfolding limited one
-  limited-bad h k e l = simp (le-leb (at + 2) (length s) (omega arith), le-ltb (pairAt s at) n (rw e at l))
+  module _ (w n : ℕ) {b : Bool} (e : b ≡ leb (at + 2) (length s)) where
+    pub limited-cut : b ≡ false → Refused 5 (length s) ≡ limited s w n at
+    unfolding limited one
+    limited-cut h = simp (sym e ∙ h)
+
+    pub limited-next : {v : ℕ} → b ≡ true → v ≡ pairAt s at → v < n → Next (at + 2) ≡ limited s w n at
+    unfolding limited one
+    limited-next h q l = simp (sym e ∙ h, lt-ltb (pairAt s at) n (rw q at l))
+
+    pub limited-bad : {v : ℕ} → b ≡ true → v ≡ pairAt s at → n ≤ v → Refused w at ≡ limited s w n at
+    unfolding limited one
+    limited-bad h q l = simp (sym e ∙ h, le-ltb (pairAt s at) n (rw q at l))
 
 -- a step that was refused, and one that was not, at the head of a sequence
 module _ {x m : Step} (k : ℕ → Step) (e : x ≡ m) where

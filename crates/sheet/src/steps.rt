@@ -1,34 +1,40 @@
 // The steps that every body is read by: a pair below a limit, a row or none, a list. Each goes from a place to the place after what it read,
 // or to a refusal; a `then_` step goes on from a step that may have been refused.
 ghost use mathlib.Core.Path.{_≡_};
+ghost use Prim.Native.Nat.{_+_};
+ghost use lib.Dec.{leb};
+ghost use lib.ListN.{length};
 ghost use Rattle.rules.specs.Format.{after, limited, orNone, list};
 use crate::pair_at;
 use rules::Step;
+
+// Whether the sheet has a whole pair at a place.
+fn has_pair(s: &[u8], at: usize) -> bool
+    ensures { λ r. ⌜ r ≡ leb (at + 2) (length (now (s .entry))) ⌝ }
+{
+    let n = s.len();
+    if n < 2 {
+        return false;
+    }
+    at <= n - 2
+}
 
 // A pair below a limit, or the refusal `why` at the pair.
 pub fn limited(s: &[u8], why: u8, limit: u32, at: usize) -> Step
     ensures { λ r. ⌜ r ≡ limited (now (s .entry)) why limit at ⌝ }
 {
-    let n = s.len();
-    if n < 2 {
+    if has_pair(s, at) {
+        if (pair_at(s, at) as u32) < limit {
+            return Step::Next(at + 2);
+        }
         return Step::Refused {
-            number: 5,
-            position: n,
-        };
-    }
-    if n - 2 < at {
-        return Step::Refused {
-            number: 5,
-            position: n,
-        };
-    }
-    if (pair_at(s, at) as u32) < limit {
-        Step::Next(at + 2)
-    } else {
-        Step::Refused {
             number: why,
             position: at,
-        }
+        };
+    }
+    Step::Refused {
+        number: 5,
+        position: s.len(),
     }
 }
 

@@ -58,7 +58,8 @@ loop-again-2 : tie.Need-loop-again-2 Inv-loop μ-loop
 loop-again-2 c =
     let pre = (c .before .before .before .before .before .before .before .pre) in
     let other = other-key _ _ _ _ _ (pre .own2) (λ q. (c .if2 .left) (pre .others2 _ (omega arith) ∙ q)) in
-    (fresh-go _ _ _ _ _ (c .before .before .before .before .before .loop .inv .0) (c .before .before .before .before .loop-test .taken) (sym other) refl, search needs)
+    let test = c .before .before .before .before in
+    (fresh-go _ _ _ _ _ (test .before .loop .inv .0) (test .loop-test .taken) (sym other) refl, search needs)
 
 loop-less-3 : tie.Need-loop-less-3 Inv-loop μ-loop
 loop-less-3 c = search needs

@@ -42,8 +42,8 @@ loop-less c = search needs
 loop-again : tie.Need-loop-again Inv-loop μ-loop
 loop-again c =
     let test = c .before .before .before in
-    let agree = bytes-agree _ _ _ _ _ (test .before .loop .inv .0) (test .loop-test .taken) (c .before .before .byte-at .ensures) (c .before .byte-at2 .ensures) in
-    (agree (c .if1 .left), omega arith, omega arith)
+    let agree = bytes-agree _ _ _ _ _ (test .before .loop .inv .0) (test .loop-test .taken) in
+    (agree (c .before .before .byte-at .ensures) (c .before .byte-at2 .ensures) (c .if1 .left), omega arith, omega arith)
 
 returns-2 : tie.Need-returns-2 Inv-loop μ-loop
 returns-2 c = search bytes-end

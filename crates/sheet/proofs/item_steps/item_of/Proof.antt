@@ -76,7 +76,8 @@ returns-7 : tie.Need-returns-7
 returns-7 c =
     let r = (c .before .before .before .before .match .rest) in
     let d = c .before .before in
-    item-type _ _ _ _ (d .before .if1 .left) (r .0 .0 .0 .0 .0 .1) (r .0 .0 .0 .0 .1) (d .if2 .taken) (c .before .type-head4 .ensures) (c .then-limited3 .ensures)
+    let head = c .before .type-head4 .ensures in
+    item-type _ _ _ _ (d .before .if1 .left) (r .0 .0 .0 .0 .0 .1) (r .0 .0 .0 .0 .1) (d .if2 .taken) head (c .then-limited3 .ensures)
 
 returns-8 : tie.Need-returns-8
 returns-8 c = search item-none

@@ -23,7 +23,9 @@ then-limited-requires-3 c κs = search needs
 
 returns : tie.Need-returns
 unfolding receivers
-returns c = receiver-of _ _ (c .before .before .before .limited .ensures) (c .before .before .pair-at .ensures) (c .before .match .keys1) (c .then-limited .ensures)
+returns c =
+    let pair = c .before .before in
+    receiver-of _ _ (pair .before .limited .ensures) (pair .pair-at .ensures) (c .before .match .keys1) (c .then-limited .ensures)
 
 returns-2 : tie.Need-returns-2
 returns-2 c = search receiver-method

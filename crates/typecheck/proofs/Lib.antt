@@ -1,0 +1,4 @@
+pub mod Below
+pub mod ByKind
+pub mod Collected
+pub mod Visitor

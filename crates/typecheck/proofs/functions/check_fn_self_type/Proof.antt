@@ -1,0 +1,62 @@
+-- `typecheck::functions::check_fn_self_type` meets its contract: each test that the code makes is that of the definition. Assumes nothing.
+use borrow.Author.Needs.{needs}
+use Rattle.rules.specs.Diagnostics.{when}
+use Rattle.errors.specs.Sink.{taken, left, meant-if}
+use Rattle.rules.specs.Check.{check-fn-self-type}
+use Rattle.typecheck.proofs.functions.check_fn_self_type.Statement.{statement}
+use Rattle.typecheck.proofs.functions.check_fn_self_type.Tie as tie
+
+self-type-requires : tie.Need-self-type-requires
+self-type-requires c κs = search needs
+
+has-requires : tie.Need-has-requires
+has-requires c κs = search needs
+
+item-error-requires : tie.Need-item-error-requires
+item-error-requires c κs = search needs
+
+same-length : tie.Need-same-length
+same-length c = search needs
+
+returns : tie.Need-returns
+unfolding check-fn-self-type when
+returns c = λ t.
+    let self-type = c .before .before .before .before .before .before .self-type in
+    let has = c .before .before .before .before .before .has in
+    let if1 = c .before .before .before .before .if1 in
+    let item-error = c .before .before .item-error in
+    taken _ _ (if1 .taken) (item-error .ensures) (rw (self-type .ensures) at (has .ensures))
+
+is-undeclared-requires : tie.Need-is-undeclared-requires
+is-undeclared-requires c κs = search needs
+
+item-error-requires-2 : tie.Need-item-error-requires-2
+item-error-requires-2 c κs = search needs
+
+same-length-2 : tie.Need-same-length-2
+same-length-2 c = search needs
+
+returns-2 : tie.Need-returns-2
+unfolding check-fn-self-type when
+returns-2 c = λ t.
+    let self-type = c .before .before .before .before .before .before .before .self-type in
+    let has = c .before .before .before .before .before .before .has in
+    let if1 = c .before .before .before .before .before .if1 in
+    let is-undeclared = c .before .before .before .is-undeclared in
+    let item-error2 = c .before .before .item-error2 in
+    left _ _ (if1 .left) (meant-if _ (item-error2 .ensures) (rw (self-type .ensures) at (is-undeclared .ensures)))
+    (rw (self-type .ensures) at (has .ensures))
+
+pub check-fn-self-type-spec : {M : Type 1} → statement M
+check-fn-self-type-spec =
+    tie.close
+    (tie.spec
+    self-type-requires
+    has-requires
+    item-error-requires
+    same-length
+    returns
+    is-undeclared-requires
+    item-error-requires-2
+    same-length-2
+    returns-2)

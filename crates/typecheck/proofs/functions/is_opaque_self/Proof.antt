@@ -1,0 +1,43 @@
+-- `typecheck::functions::is_opaque_self` meets its contract: what its calls ensure, put together. Assumes nothing.
+use borrow.Author.Needs.{needs}
+use Rattle.typecheck.proofs.functions.is_opaque_self.Statement.{statement}
+use Rattle.typecheck.proofs.functions.is_opaque_self.Tie as tie
+
+has-requires : tie.Need-has-requires
+has-requires c κs = search needs
+
+and-requires : tie.Need-and-requires
+and-requires c κs = search needs
+
+has-requires-2 : tie.Need-has-requires-2
+has-requires-2 c κs = search needs
+
+and-requires-2 : tie.Need-and-requires-2
+and-requires-2 c κs = search needs
+
+has-requires-3 : tie.Need-has-requires-3
+has-requires-3 c κs = search needs
+
+and-requires-3 : tie.Need-and-requires-3
+and-requires-3 c κs = search needs
+
+returns : tie.Need-returns
+returns c =
+    let has = c .before .before .before .before .before .has in
+    let and = c .before .before .before .before .and in
+    let has2 = c .before .before .before .has2 in
+    let and2 = c .before .before .and2 in
+    let has3 = c .before .has3 in
+    rw (and2 .ensures, and .ensures, has .ensures, has2 .ensures, has3 .ensures) at (c .and3 .ensures)
+
+pub is-opaque-self-spec : {M : Type 1} → statement M
+is-opaque-self-spec =
+    tie.close
+    (tie.spec
+    has-requires
+    and-requires
+    has-requires-2
+    and-requires-2
+    has-requires-3
+    and-requires-3
+    returns)

@@ -1,0 +1,73 @@
+-- `typecheck::items::check_api_struct` meets its contract: its parts report one after the other. Assumes nothing.
+use borrow.Author.Needs.{needs}
+use mathlib.Core.Path.{_∙_}
+use Rattle.errors.specs.Sink.{also, also-if}
+use Rattle.rules.specs.Check.{check-api-struct}
+use Rattle.typecheck_rows.specs.Tables.{holding}
+use Rattle.typecheck.specs.Tables.{withUntrusted}
+use Rattle.typecheck.proofs.items.check_api_struct.Statement.{statement}
+use Rattle.typecheck.proofs.items.check_api_struct.Tie as tie
+
+check-reserved-name-requires : tie.Need-check-reserved-name-requires
+check-reserved-name-requires c κs = search needs
+
+check-lifetimes-requires : tie.Need-check-lifetimes-requires
+check-lifetimes-requires c κs = search needs
+
+field-count-requires : tie.Need-field-count-requires
+field-count-requires c κs = search needs
+
+item-error-requires : tie.Need-item-error-requires
+item-error-requires c κs = search needs
+
+check-untrusted-requires : tie.Need-check-untrusted-requires
+check-untrusted-requires c κs = search needs
+
+check-struct-derives-requires : tie.Need-check-struct-derives-requires
+check-struct-derives-requires c κs = search needs
+
+check-struct-fields-requires : tie.Need-check-struct-fields-requires
+check-struct-fields-requires c κs = search needs
+
+same-length : tie.Need-same-length
+same-length c =
+    let early = c .before .before .before .before .before .before .before .before .before .before .before .before in
+    let check-reserved-name = early .before .before .before .before .before .before .before .before .before .before .before .check-reserved-name in
+    let check-lifetimes = early .before .before .before .before .before .before .before .check-lifetimes in
+    let item-error = early .before .before .item-error in
+    let check-untrusted = c .before .before .before .before .before .before .before .before .before .before .check-untrusted in
+    let check-struct-derives = c .before .before .before .before .before .before .check-struct-derives in
+    let check-struct-fields = c .before .before .check-struct-fields in
+    check-struct-fields .kept .1 .1 .1 .1 .0 ∙ check-struct-derives .kept .1 .1 .0 ∙ check-untrusted .kept .1 .1 .1 .1 .0
+    ∙ item-error .kept .1 .0 ∙ check-lifetimes .kept .1 .1 .0 ∙ check-reserved-name .kept .1 .1 .0
+
+returns : tie.Need-returns
+unfolding check-api-struct
+returns c = λ t u b n l.
+    let early = c .before .before .before .before .before .before .before .before .before .before .before .before in
+    let args = early .before .before .before .before .before .before .before .before .before .before .before .before .before .before .before .args in
+    let check-reserved-name = early .before .before .before .before .before .before .before .before .before .before .before .check-reserved-name in
+    let check-lifetimes = early .before .before .before .before .before .before .before .check-lifetimes in
+    let field-count = early .before .before .before .field-count in
+    let item-error = early .before .before .item-error in
+    let check-untrusted = c .before .before .before .before .before .before .before .before .before .before .check-untrusted in
+    let check-struct-derives = c .before .before .before .before .before .before .check-struct-derives in
+    let check-struct-fields = c .before .before .check-struct-fields in
+    let T = holding (args .sets .now) (withUntrusted (args .untrusted .now) t) in
+    also (also (also
+    (also-if _ (also (check-reserved-name .ensures T) (check-lifetimes .ensures T)) (item-error .ensures) (rw (field-count .ensures)))
+    (check-untrusted .ensures n l)) (check-struct-derives .ensures T)) (check-struct-fields .ensures (withUntrusted _ t) u b)
+
+pub check-api-struct-spec : {M : Type 1} → statement M
+check-api-struct-spec =
+    tie.close
+    (tie.spec
+    check-reserved-name-requires
+    check-lifetimes-requires
+    field-count-requires
+    item-error-requires
+    check-untrusted-requires
+    check-struct-derives-requires
+    check-struct-fields-requires
+    same-length
+    returns)

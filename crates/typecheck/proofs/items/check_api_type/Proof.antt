@@ -1,0 +1,59 @@
+-- `typecheck::items::check_api_type` meets its contract: its parts report one after the other. Assumes nothing.
+use borrow.Author.Needs.{needs}
+use Rattle.errors.specs.Sink.{also, also-if}
+use Rattle.rules.specs.Check.{check-api-type}
+use Rattle.typecheck_rows.specs.Tables.{holding}
+use Rattle.typecheck.specs.Tables.{withReasons}
+use Rattle.typecheck.proofs.items.check_api_type.Statement.{statement}
+use Rattle.typecheck.proofs.items.check_api_type.Tie as tie
+
+check-reserved-name-requires : tie.Need-check-reserved-name-requires
+check-reserved-name-requires c κs = search needs
+
+check-lifetimes-requires : tie.Need-check-lifetimes-requires
+check-lifetimes-requires c κs = search needs
+
+check-opaque-derives-requires : tie.Need-check-opaque-derives-requires
+check-opaque-derives-requires c κs = search needs
+
+type-bounds-requires : tie.Need-type-bounds-requires
+type-bounds-requires c κs = search needs
+
+item-error-requires : tie.Need-item-error-requires
+item-error-requires c κs = search needs
+
+check-required-trivial-requires : tie.Need-check-required-trivial-requires
+check-required-trivial-requires c κs = search needs
+
+same-length : tie.Need-same-length
+same-length c = search needs
+
+returns : tie.Need-returns
+unfolding check-api-type
+returns c = λ t l.
+    let early = c .before .before .before .before .before .before .before .before .before .before .before .before in
+    let args = early .before .before .before .before .before .before .before .before .before .before .before .args in
+    let check-reserved-name = early .before .before .before .before .before .before .before .check-reserved-name in
+    let check-lifetimes = early .before .before .before .check-lifetimes in
+    let check-opaque-derives = c .before .before .before .before .before .before .before .before .before .before .before .check-opaque-derives in
+    let type-bounds = c .before .before .before .before .before .before .before .type-bounds in
+    let item-error = c .before .before .before .before .before .before .item-error in
+    let check-required-trivial = c .before .before .check-required-trivial in
+    let T = holding (args .sets .now) (withReasons (args .reasons .now) t) in
+    also
+    (also-if _ (also (also (check-reserved-name .ensures T) (check-lifetimes .ensures T)) (check-opaque-derives .ensures T)) (item-error .ensures)
+    (type-bounds .ensures))
+    (check-required-trivial .ensures l)
+
+pub check-api-type-spec : {M : Type 1} → statement M
+check-api-type-spec =
+    tie.close
+    (tie.spec
+    check-reserved-name-requires
+    check-lifetimes-requires
+    check-opaque-derives-requires
+    type-bounds-requires
+    item-error-requires
+    check-required-trivial-requires
+    same-length
+    returns)

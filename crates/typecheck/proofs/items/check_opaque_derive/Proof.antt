@@ -1,0 +1,28 @@
+-- `typecheck::items::check_opaque_derive` meets its contract: the test is that of the definition. Assumes nothing.
+use borrow.Author.Needs.{needs}
+use mathlib.Core.Path.{ap}
+use mathlib.Core.Bool.{not}
+use Rattle.errors.specs.Sink.{meant-if}
+use Rattle.rules.specs.Check.{check-opaque-derive}
+use Rattle.typecheck.proofs.items.check_opaque_derive.Statement.{statement}
+use Rattle.typecheck.proofs.items.check_opaque_derive.Tie as tie
+
+and-requires : tie.Need-and-requires
+and-requires c κs = search needs
+
+derive-error-requires : tie.Need-derive-error-requires
+derive-error-requires c κs = search needs
+
+same-length : tie.Need-same-length
+same-length c = search needs
+
+returns : tie.Need-returns
+unfolding check-opaque-derive
+returns c = λ s t q r.
+    let and = c .before .before .before .and in
+    let derive-error = c .before .before .derive-error in
+    meant-if _ (derive-error .ensures) (ap not (rw (q, r) at (and .ensures)))
+
+pub check-opaque-derive-spec : {M : Type 1} → statement M
+check-opaque-derive-spec =
+    tie.close (tie.spec and-requires derive-error-requires same-length returns)

@@ -1,0 +1,95 @@
+-- `typecheck::items::check_opaque_derives` meets its contract: the derives before j have given their messages. Assumes nothing.
+use borrow.Author.Needs.{needs}
+use Prim.Native.Nat.{_≤_, _-_}
+use mathlib.Core.Path.{_≡_, refl, _∙_}
+use native.Mathlib.Omega.{arith}
+use lib.ListN.{length}
+use Rattle.rules.specs.Base.{over}
+use Rattle.rules.specs.Types.{Types}
+use Rattle.rules.specs.View.{derive, deriveCount}
+use Rattle.errors.specs.Sink.{Reported, start, turn, whole}
+use Rattle.rules.specs.Check.{check-opaque-derive}
+use Rattle.typecheck.proofs.items.check_opaque_derives.Statement.{statement}
+use Rattle.typecheck.proofs.items.check_opaque_derives.Tie as tie
+
+abbrev Inv-loop : tie.InvT-loop
+Inv-loop s out₀ i rust at n e₀ j₀ out e j = (length out ≡ length out₀) × (j ≤ n) ×
+    ((t : Types) → Reported out₀ e₀ (over j (check-opaque-derive s t i)) e out)
+
+abbrev μ-loop : tie.MeasureT-loop
+μ-loop s out₀ i rust at n e₀ j₀ out e j = n - j
+
+item-is-requires : tie.Need-item-is-requires Inv-loop μ-loop
+item-is-requires c κs = search needs
+
+derives-place-requires : tie.Need-derives-place-requires Inv-loop μ-loop
+derives-place-requires c κs = search needs
+
+cast-pair-at : tie.Need-cast-pair-at Inv-loop μ-loop
+cast-pair-at c = search needs
+
+pair-at-requires : tie.Need-pair-at-requires Inv-loop μ-loop
+pair-at-requires c κs = search needs
+
+loop-holds : tie.Need-loop-holds Inv-loop μ-loop
+loop-holds c = (refl, omega arith, λ t. start _ _ _)
+
+add-j : tie.Need-add-j Inv-loop μ-loop
+add-j c = omega arith
+
+entry-requires : tie.Need-entry-requires Inv-loop μ-loop
+entry-requires c κs = search needs
+
+check-opaque-derive-requires : tie.Need-check-opaque-derive-requires Inv-loop μ-loop
+check-opaque-derive-requires c κs = search needs
+
+loop-less : tie.Need-loop-less Inv-loop μ-loop
+loop-less c = omega arith
+
+loop-again : tie.Need-loop-again Inv-loop μ-loop
+unfolding derive
+loop-again c =
+    let args = c .before .before .before .before .before .before .before .before .before .before .before .before .args in
+    let item-is = c .before .before .before .before .before .before .before .before .before .item-is in
+    let derives-place = c .before .before .before .before .before .before .before .before .derives-place in
+    let loop = c .before .before .before .before .before .before .loop in
+    let entry = c .before .before .before .entry in
+    let check-opaque-derive = c .before .before .check-opaque-derive in
+    let at = loop in (
+      check-opaque-derive .kept .1 .0 ∙ at .inv .0,
+      omega arith,
+      λ t. turn _ _ (at .inv .2 t)
+          (check-opaque-derive .ensures (args .s .now) t (rw (derives-place .ensures) at (entry .ensures)) (item-is .ensures)),
+    )
+
+same-length : tie.Need-same-length Inv-loop μ-loop
+same-length c =
+    let loop = c .before .loop in
+    loop .inv .0
+
+returns : tie.Need-returns Inv-loop μ-loop
+unfolding deriveCount
+returns c = λ t.
+    let derives-place = c .before .before .before .derives-place in
+    let pair-at = c .before .before .pair-at in
+    let loop = c .before .loop in
+    let e : loop .j ≡ pair-at .result = omega arith in whole _ (loop .inv .2 t) (e ∙ (rw (derives-place .ensures) at (pair-at .ensures)))
+
+pub check-opaque-derives-spec : {M : Type 1} → statement M
+check-opaque-derives-spec =
+    tie.close
+    (tie.spec
+    Inv-loop
+    μ-loop
+    item-is-requires
+    derives-place-requires
+    cast-pair-at
+    pair-at-requires
+    loop-holds
+    add-j
+    entry-requires
+    check-opaque-derive-requires
+    loop-less
+    loop-again
+    same-length
+    returns)

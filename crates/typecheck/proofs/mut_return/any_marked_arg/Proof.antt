@@ -1,0 +1,82 @@
+-- `typecheck::mut_return::any_marked_arg` meets its contract: found says whether one before j is marked. Assumes nothing.
+use borrow.Author.Needs.{needs}
+use Prim.Native.Nat.{_≤_, _-_, _+_}
+use mathlib.Core.Path.{_≡_, refl, _∙_, ap}
+use mathlib.Core.List.{[], _∷_}
+use native.Mathlib.Omega.{arith}
+use Prim.Native.Nat.{ℕ}
+use Rattle.rules.specs.Base.{over, anyOf}
+use Rattle.rules.specs.View.{entry, entries}
+use Rattle.typecheck_rows.specs.Tables.{marked}
+use Rattle.typecheck.proofs.Visitor.{any-turn}
+use Rattle.typecheck.proofs.mut_return.any_marked_arg.Statement.{statement}
+use Rattle.typecheck.proofs.mut_return.any_marked_arg.Tie as tie
+
+abbrev Inv-loop : tie.InvT-loop
+Inv-loop s table place n found₀ j₀ found j = (j ≤ n) × (found ≡ anyOf (marked table) (over j (λ k. entry s (place + 2) k ∷ [])))
+
+abbrev μ-loop : tie.MeasureT-loop
+μ-loop s table place n found₀ j₀ found j = n - j
+
+add-pair-at : tie.Need-add-pair-at Inv-loop μ-loop
+add-pair-at c = search needs
+
+pair-at-requires : tie.Need-pair-at-requires Inv-loop μ-loop
+pair-at-requires c κs = search needs
+
+loop-holds : tie.Need-loop-holds Inv-loop μ-loop
+unfolding over anyOf
+loop-holds c = (omega arith, refl)
+
+add-j : tie.Need-add-j Inv-loop μ-loop
+add-j c = omega arith
+
+arg-at-requires : tie.Need-arg-at-requires Inv-loop μ-loop
+arg-at-requires c κs = search needs
+
+marked-requires : tie.Need-marked-requires Inv-loop μ-loop
+marked-requires c κs = search needs
+
+or-requires : tie.Need-or-requires Inv-loop μ-loop
+or-requires c κs = search needs
+
+loop-less : tie.Need-loop-less Inv-loop μ-loop
+loop-less c = omega arith
+
+loop-again : tie.Need-loop-again Inv-loop μ-loop
+loop-again c =
+    let args = c .before .before .before .before .before .before .before .args in
+    let loop = c .before .before .before .before .loop in
+    let arg-at = c .before .before .arg-at in
+    let looked-up = c .before .marked in (
+      omega arith,
+      any-turn (marked _) (entry (args .s .now) (args .place + 2)) _ (loop .inv .1) (rw (arg-at .ensures) at (looked-up .ensures))
+          (c .or .ensures),
+    )
+
+returns : tie.Need-returns Inv-loop μ-loop
+unfolding entries
+returns c =
+    let args = c .before .before .before .before .args in
+    let pair-at = c .before .before .pair-at in
+    let loop = c .before .loop in
+    let e : loop .j ≡ pair-at .result = omega arith in
+    loop .inv .1 ∙ ap (λ (n : ℕ). anyOf (marked (args .table .now)) (over n (λ k. entry (args .s .now) (args .place + 2) k ∷ [])))
+    (e ∙ pair-at .ensures)
+
+pub any-marked-arg-spec : {M : Type 1} → statement M
+any-marked-arg-spec =
+    tie.close
+    (tie.spec
+    Inv-loop
+    μ-loop
+    add-pair-at
+    pair-at-requires
+    loop-holds
+    add-j
+    arg-at-requires
+    marked-requires
+    or-requires
+    loop-less
+    loop-again
+    returns)

@@ -1,0 +1,102 @@
+-- `typecheck::mut_return::any_marked_shown` meets its contract: what its calls ensure, put together. Assumes nothing.
+use borrow.Author.Needs.{needs}
+use mathlib.Core.Path.{refl, sym, ap, _∙_}
+use borrow.Author.Tests.{ne-eqb}
+use Rattle.rules.specs.Base.{anyOf}
+use Rattle.laws.proofs.Collect.Shown.{shown-leaf, shown-inner}
+use Rattle.typecheck_rows.specs.Tables.{marked}
+use Rattle.typecheck.proofs.Visitor.{any-one, any-fn}
+use Rattle.typecheck.proofs.mut_return.any_marked_shown.Statement.{statement}
+use Rattle.typecheck.proofs.mut_return.any_marked_shown.Tie as tie
+
+kind-requires : tie.Need-kind-requires
+kind-requires c κs = search needs
+
+or-requires : tie.Need-or-requires
+or-requires c κs = search needs
+
+or-requires-2 : tie.Need-or-requires-2
+or-requires-2 c κs = search needs
+
+returns : tie.Need-returns
+unfolding anyOf
+returns c =
+    let kind = c .before .before .before .kind in
+    let or = c .before .before .or in
+    let or2 = c .before .or2 in
+    rw (shown-leaf _ _ _ (sym (rw (or .ensures) at (or2 .ensures)) ∙ c .if1 .taken) (sym (kind .ensures)), anyOf)
+
+fn-return-requires : tie.Need-fn-return-requires
+fn-return-requires c κs = search needs
+
+is-marked-return-requires : tie.Need-is-marked-return-requires
+is-marked-return-requires c κs = search needs
+
+offset-requires : tie.Need-offset-requires
+offset-requires c κs = search needs
+
+cast-place : tie.Need-cast-place
+cast-place c = search needs
+
+add-place : tie.Need-add-place
+add-place c = search needs
+
+any-marked-arg-requires : tie.Need-any-marked-arg-requires
+any-marked-arg-requires c κs = search needs
+
+or-requires-3 : tie.Need-or-requires-3
+or-requires-3 c κs = search needs
+
+returns-2 : tie.Need-returns-2
+returns-2 c =
+    let kind = c .before .before .before .before .before .before .before .before .before .kind in
+    let if2 = c .before .before .before .before .before .if2 in
+    let fn-return = c .before .before .before .before .fn-return in
+    let is-marked-return = c .before .before .before .is-marked-return in
+    let offset = c .before .before .offset in
+    let any-marked-arg = c .before .any-marked-arg in
+    rw (
+      is-marked-return .ensures,
+      fn-return .ensures,
+      any-marked-arg .ensures,
+      offset .ensures,
+      any-fn _ _ (marked _)
+          (sym (kind .ensures) ∙ if2 .taken),
+    ) at (c .or3 .ensures)
+
+inner-requires : tie.Need-inner-requires
+inner-requires c κs = search needs
+
+marked-requires : tie.Need-marked-requires
+marked-requires c κs = search needs
+
+returns-3 : tie.Need-returns-3
+returns-3 c =
+    let kind = c .before .before .before .before .before .before .kind in
+    let or = c .before .before .before .before .before .or in
+    let or2 = c .before .before .before .before .or2 in
+    let if1 = c .before .before .before .if1 in
+    let if2 = c .before .before .if2 in
+    let inner = c .before .inner in
+    rw (shown-inner _ _ _ (sym (rw (or .ensures) at (or2 .ensures)) ∙ if1 .left) (ne-eqb _ _ (if2 .left)) (sym (kind .ensures)), any-one)
+    (rw (inner .ensures) at (c .marked .ensures))
+
+pub any-marked-shown-spec : {M : Type 1} → statement M
+any-marked-shown-spec =
+    tie.close
+    (tie.spec
+    kind-requires
+    or-requires
+    or-requires-2
+    returns
+    fn-return-requires
+    is-marked-return-requires
+    offset-requires
+    cast-place
+    add-place
+    any-marked-arg-requires
+    or-requires-3
+    returns-2
+    inner-requires
+    marked-requires
+    returns-3)

@@ -1,0 +1,89 @@
+-- `typecheck::mut_return::lifetime_mut_rows` meets its contract: the entries below r are right, and the next is decided by them. Assumes nothing.
+use borrow.Author.Needs.{needs}
+use Prim.Native.Nat.{ℕ, _≤_, _<_, _-_}
+use mathlib.Core.Path.{_≡_, refl, ap, _∙_}
+use native.Mathlib.Omega.{arith}
+use lib.ListN.{length, length-replicate, length-set}
+use Rattle.rules.specs.Diagnostics.{bit}
+use Rattle.rules.specs.Types.{Types}
+use Rattle.rules.specs.Check.{find-lifetime-mut}
+use Rattle.laws.proofs.Accepted.Sheet.{sheet-of}
+use Rattle.laws.proofs.Accepted.Rows.{row-of}
+use Rattle.typecheck_rows.proofs.Upward.{Right, right-start, right-next}
+use Rattle.typecheck.specs.Tables.{withLastType}
+use Rattle.typecheck.specs.Tests.{mutRow}
+use Rattle.typecheck.proofs.Visitor.{mut-up, mut-rows}
+use Rattle.typecheck.proofs.mut_return.lifetime_mut_rows.Statement.{statement}
+use Rattle.typecheck.proofs.mut_return.lifetime_mut_rows.Tie as tie
+
+abbrev Inv-loop : tie.InvT-loop
+Inv-loop s last-type n table₀ r₀ table r = (r ≤ n) × (n ≤ 1024) × (length table ≡ 1024) ×
+    ((t : Types) → length last-type ≡ 256 → Right (find-lifetime-mut s (withLastType last-type t)) table r)
+
+abbrev μ-loop : tie.MeasureT-loop
+μ-loop s last-type n table₀ r₀ table r = n - r
+
+rows-requires : tie.Need-rows-requires Inv-loop μ-loop
+rows-requires c κs = search needs
+
+loop-holds : tie.Need-loop-holds Inv-loop μ-loop
+loop-holds c =
+    let pre = c .before .before .pre in
+    (omega arith, rw (c .rows .ensures) (sheet-of _ pre .few-rows), length-replicate {A = ℕ} 1024 0, λ t u. right-start _ _)
+
+add-r : tie.Need-add-r Inv-loop μ-loop
+add-r c = search needs
+
+is-mut-row-requires : tie.Need-is-mut-row-requires Inv-loop μ-loop
+is-mut-row-requires c κs = search needs
+
+mark-requires : tie.Need-mark-requires Inv-loop μ-loop
+mark-requires c κs = search needs
+
+cast-table : tie.Need-cast-table Inv-loop μ-loop
+cast-table c = search needs
+
+array-write-table : tie.Need-array-write-table Inv-loop μ-loop
+array-write-table c = search needs
+
+loop-less : tie.Need-loop-less Inv-loop μ-loop
+loop-less c = search needs
+
+loop-again : tie.Need-loop-again Inv-loop μ-loop
+loop-again c =
+    let pre = c .before .before .before .before .before .before .before .pre in
+    let rows = c .before .before .before .before .before .rows in
+    let loop = c .before .before .before .before .loop in
+    let loop-test = c .before .before .before .loop-test in
+    let is-mut-row = c .before .is-mut-row in
+    let at = loop in
+    let below = rw (rows .ensures) at (loop-test .taken) in (
+      omega arith,
+      at .inv .1,
+      simp length-set (at .inv .2),
+      λ t u. right-next _ (mutRow _ (withLastType _ t)) _ _ (mut-up _ pre _ _ below) (omega arith) (omega arith)
+          (at .inv .3 t u) (c .mark .ensures ∙ ap bit (is-mut-row .ensures t u (row-of _ pre _ below .named))),
+    )
+
+returns : tie.Need-returns Inv-loop μ-loop
+returns c = λ t u.
+    let rows = c .before .before .rows in
+    let loop = c .before .loop in
+    let e : loop .r ≡ rows .result = omega arith in mut-rows _ (withLastType _ t) _ (e ∙ rows .ensures) (loop .inv .3 t u)
+
+pub lifetime-mut-rows-spec : {M : Type 1} → statement M
+lifetime-mut-rows-spec =
+    tie.close
+    (tie.spec
+    Inv-loop
+    μ-loop
+    rows-requires
+    loop-holds
+    add-r
+    is-mut-row-requires
+    mark-requires
+    cast-table
+    array-write-table
+    loop-less
+    loop-again
+    returns)

@@ -1,0 +1,4 @@
+pub mod Branches
+pub mod ByKind
+pub mod Upward
+pub mod UnsizedTable

@@ -1,0 +1,43 @@
+-- `typecheck_rows::rows::check_type_slice_ref` meets its contract: the test is that of the definition. Assumes nothing.
+use borrow.Author.Needs.{needs}
+use Rattle.errors.specs.Sink.{meant-if}
+use mathlib.Core.Path.{ap}
+use mathlib.Core.Bool.{not}
+use Rattle.rules.specs.Check.{check-type-slice-ref}
+use Rattle.typecheck_rows.proofs.rows.check_type_slice_ref.Statement.{statement}
+use Rattle.typecheck_rows.proofs.rows.check_type_slice_ref.Tie as tie
+
+is-slice-element-requires : tie.Need-is-slice-element-requires
+is-slice-element-requires c κs = search needs
+
+is-opaque-element-requires : tie.Need-is-opaque-element-requires
+is-opaque-element-requires c κs = search needs
+
+bit-requires : tie.Need-bit-requires
+bit-requires c κs = search needs
+
+row-error-requires : tie.Need-row-error-requires
+row-error-requires c κs = search needs
+
+same-length : tie.Need-same-length
+same-length c = search needs
+
+returns : tie.Need-returns
+unfolding check-type-slice-ref
+returns c = λ t u l.
+    let is-slice-element = c .before .before .before .before .before .before .is-slice-element in
+    let is-opaque-element = c .before .before .before .before .before .is-opaque-element in
+    let bit = c .before .before .before .bit in
+    let row-error = c .before .before .row-error in
+    meant-if _ (rw (bit .ensures, is-opaque-element .ensures) at (row-error .ensures)) (ap not (is-slice-element .ensures t u l))
+
+pub check-type-slice-ref-spec : {M : Type 1} → statement M
+check-type-slice-ref-spec =
+    tie.close
+    (tie.spec
+    is-slice-element-requires
+    is-opaque-element-requires
+    bit-requires
+    row-error-requires
+    same-length
+    returns)

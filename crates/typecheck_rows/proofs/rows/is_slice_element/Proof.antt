@@ -1,0 +1,67 @@
+-- `typecheck_rows::rows::is_slice_element` meets its contract: what its calls ensure, put together. Assumes nothing.
+use borrow.Author.Needs.{needs}
+use Rattle.typecheck_rows.proofs.rows.is_slice_element.Statement.{statement}
+use Rattle.typecheck_rows.proofs.rows.is_slice_element.Tie as tie
+
+target-name-requires : tie.Need-target-name-requires
+target-name-requires c κs = search needs
+
+has-requires : tie.Need-has-requires
+has-requires c κs = search needs
+
+has-requires-2 : tie.Need-has-requires-2
+has-requires-2 c κs = search needs
+
+or-requires : tie.Need-or-requires
+or-requires c κs = search needs
+
+inner-requires : tie.Need-inner-requires
+inner-requires c κs = search needs
+
+is-unsized-requires : tie.Need-is-unsized-requires
+is-unsized-requires c κs = search needs
+
+target-is-requires : tie.Need-target-is-requires
+target-is-requires c κs = search needs
+
+and-requires : tie.Need-and-requires
+and-requires c κs = search needs
+
+or-requires-2 : tie.Need-or-requires-2
+or-requires-2 c κs = search needs
+
+returns : tie.Need-returns
+returns c = λ t u l.
+    let target-name = c .before .before .before .before .before .before .before .before .target-name in
+    let has = c .before .before .before .before .before .before .before .has in
+    let has2 = c .before .before .before .before .before .before .has2 in
+    let or = c .before .before .before .before .before .or in
+    let inner = c .before .before .before .before .inner in
+    let is-unsized = c .before .before .before .is-unsized in
+    let target-is = c .before .before .target-is in
+    let and = c .before .and in
+    rw (
+      and .ensures,
+      is-unsized .ensures _ _ u (rw (inner .ensures) l),
+      inner .ensures,
+      target-is .ensures,
+      or .ensures,
+      has .ensures,
+      has2 .ensures,
+      target-name .ensures,
+    ) at (c .or2 .ensures)
+
+pub is-slice-element-spec : {M : Type 1} → statement M
+is-slice-element-spec =
+    tie.close
+    (tie.spec
+    target-name-requires
+    has-requires
+    has-requires-2
+    or-requires
+    inner-requires
+    is-unsized-requires
+    target-is-requires
+    and-requires
+    or-requires-2
+    returns)
