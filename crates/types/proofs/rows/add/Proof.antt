@@ -29,9 +29,7 @@ same-length c = search needs
 
 returns : tie.Need-returns
 returns c =
-    let c₂ = c .before .before in
-    let c₆ = c₂ .before .before .before .before in
-    let c₉ = c₆ .before .before .before in
+    let c₂ = c .before .before in let c₆ = c₂ .before .before .before .before in let c₉ = c₆ .before .before .before in
     let a = c₉ .args in
     let p = c₉ .pre in
     let out = sym (p .1 .0 .marks (a .r) (p .0 .0)) ∙ p .1 .1 in
