@@ -1,69 +1,24 @@
 -- The table of functions: a bit is set exactly where a function before had that self type and name, so what it says is what the rules say of all pairs.
 -- Assumes nothing.
-use Prim.Native.Nat.{ℕ, zero, suc, _+_, _*_, _/_, _%_, _^_, _<_, _≤_}
+use Prim.Native.Nat.{ℕ, zero, suc, _+_, _*_, _/_, _<_, _≤_}
 use mathlib.Core.Path.{_≡_, refl, sym, ap, _∙_}
 use mathlib.Core.Bool.{Bool, true, false, not, _&&_, _||_}
-use mathlib.Core.List.{List, [], _∷_}
+use mathlib.Core.List.{List}
 use native.Mathlib.Omega.{arith}
 use native.Mathlib.Numerals.{add-one}
-use native.Mathlib.Nat.{zero-div}
-use lib.Bits.{bitOr}
 use lib.Dec.{eqb}
-use lib.ListN.{length, getD, set, replicate, length-replicate}
-use lib.Seq.{getD-set-same, getD-set-other}
-use borrow.Author.Tests.{eq-eqb, ne-eqb, eqb-true, eqb-false}
+use lib.ListN.{length, length-replicate}
+use borrow.Author.Tests.{eq-eqb, eqb-true, eqb-false}
 use Rattle.rules.specs.Base.{if_then_else_, some}
 use Rattle.rules.specs.Format.{Accepted}
-use Rattle.rules.specs.Names.{Words, bitOf, add, _∋_}
+use Rattle.rules.specs.Names.{Words, add, _∋_}
 use Rattle.rules.specs.View.{items, isFunction, itemName, form, isFree, selfType}
 use Rattle.rules.specs.Collect.{sameFunction, duplicateFunction}
-use Rattle.laws.proofs.Counts.{Eq?, same, other, eq?}
-use Rattle.laws.proofs.Lists.{zeros-get}
-use Rattle.laws.proofs.NameSets.{has-add, length-add}
+use Rattle.laws.proofs.NameSets.{length-add}
 use Rattle.laws.proofs.Tests.{never, both, both-are}
 use Rattle.laws.proofs.Accepted.Items.{item-of}
 use Rattle.types.specs.Named.{ofSelf, keyOf, entersKeys, keysTo}
-
--- ## Sets of any number of words. (This section is about the rules alone.)
-
--- the law of sets of names, at the first word
-pub bit-set : (v i j : ℕ) → i < 64 → j < 64 → eqb (bitOf (bitOr v (2 ^ i)) j) 1 ≡ (eqb j i || eqb (bitOf v j) 1)
-unfolding add _∋_
-bit-set v i j a b =
-    let p : i / 64 ≡ 0 = omega arith in
-    let q : i % 64 ≡ i = omega arith in
-    let x : j / 64 ≡ 0 = omega arith in
-    let y : j % 64 ≡ j = omega arith in
-    rw (p, q, x, y) at (has-add (v ∷ 0 ∷ 0 ∷ 0 ∷ []) i j refl (omega arith))
-
-has-added : (w : Words) (i x : ℕ) → i / 64 < length w → (add w i ∋ x) ≡ (eqb x i || (w ∋ x))
-unfolding add _∋_
-has-added w i x h = go (eq? (x / 64) (i / 64))
-  where
-    v : ℕ
-    v = bitOr (getD w (i / 64) 0) (2 ^ (i % 64))
-
-    near : x / 64 ≡ i / 64 → eqb (x % 64) (i % 64) ≡ eqb x i
-    near p = both (eqb x i)
-        (λ t. let z = eqb-true x i t in eq-eqb (x % 64) (i % 64) (omega arith) ∙ sym t)
-        (λ t. let z = eqb-false x i t in ne-eqb (x % 64) (i % 64) (λ u. z (omega arith)) ∙ sym t)
-
-    go : Eq? (x / 64) (i / 64) → eqb (bitOf (getD (set w (i / 64) v) (x / 64) 0) (x % 64)) 1 ≡ (eqb x i || eqb (bitOf (getD w (x / 64) 0) (x % 64)) 1)
-    go (same _ p) = rw (p, getD-set-same w (i / 64) v 0 h, ← (near p)) (bit-set (getD w (i / 64) 0) (i % 64) (x % 64) (omega arith) (omega arith))
-    go (other _ p) = rw (getD-set-other w (i / 64) (x / 64) v 0 p, ne-eqb x i (λ e. p (ap (λ (n : ℕ). n / 64) e)))
-
-has-none : (n x : ℕ) → (replicate n 0 ∋ x) ≡ false
-unfolding _∋_ bitOf
-has-none n x = ap (λ w. eqb (w / 2 ^ (x % 64) % 2) 1) (zeros-get n (x / 64)) ∙ ap (λ m. eqb (m % 2) 1) (zero-div (2 ^ (x % 64)))
-
--- ## Some number below k passes
-
-some-same : (k : ℕ) (p q : ℕ → Bool) → ((j : ℕ) → j < k → p j ≡ q j) → some k p ≡ some k q
-unfolding some
-some-same zero p q h = refl
-some-same (suc k) p q h =
-    ap (λ (b : Bool). elim b as (λ _. Bool) [ true ↦ true | false ↦ some k p ]) (h k (omega arith))
-    ∙ ap (λ (t : Bool). elim (q k) as (λ _. Bool) [ true ↦ true | false ↦ t ]) (some-same k p q (λ j l. h j (omega arith)))
+use Rattle.types.proofs.AboutRules.{has-added, has-none, some-same}
 
 -- ## Two keys
 

@@ -1,4 +1,4 @@
-pub mod Room
+pub mod AboutRules
 pub mod Stored
 pub mod Zeroed
 pub mod Walking

@@ -19,8 +19,7 @@ use Rattle.rules.specs.Names.{bitOf}
 use Rattle.laws.proofs.Lists.{over-length, over-get}
 use Rattle.laws.proofs.Tests.{both}
 use Rattle.types.specs.Scratch.{rowsOf, marked, Holds, Grown}
-use Rattle.types.proofs.Keys.{bit-set}
-use Rattle.types.proofs.Room.{or-false, seen-snoc, room-less}
+use Rattle.types.proofs.AboutRules.{bit-set, or-false, seen-snoc, room-less}
 
 -- ## A bit of a byte
 

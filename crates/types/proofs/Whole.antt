@@ -1,6 +1,6 @@
 -- The whole of `collect`: the cleared scratch to begin with, the tables to begin with, and that what the parts leave is what the rules say of the sheet.
 -- Assumes nothing.
-use Prim.Native.Nat.{ℕ, zero, suc, _+_, _*_, _/_, _-_, _<_, _≤_}
+use Prim.Native.Nat.{ℕ, _+_, _*_, _/_, _-_, _<_, _≤_}
 use mathlib.Core.Path.{_≡_, refl, sym, ap, _∙_}
 use mathlib.Core.List.{List, [], _∷_, _++_}
 use native.Mathlib.Omega.{arith}
@@ -28,6 +28,7 @@ use Rattle.types.specs.Scratch.{rowsOf, marked, Holds, Grown, Held}
 use Rattle.types.specs.Named.{Named, ReadyTables, Declared}
 use Rattle.types.specs.Reasons.{oneMore, countAll, Counted, ofItem, ofRow, Required}
 use Rattle.types.specs.Post.{Collectable, Collects}
+use Rattle.types.proofs.AboutRules.{over-same}
 use Rattle.types.proofs.Zeroed.{cleared-length, cleared-at}
 use Rattle.types.proofs.Stored.{holds-length, holds-row}
 
@@ -72,11 +73,6 @@ count-tally (n ∷ ns) t h = rw (lt-ltb (getD t n 0) 65535 (omega (arith, h n)),
         go e (no l) = rw (set-out t n (getD t n 0 + 1) (omega arith)) (omega (arith, h m))
         go (same _ e) (yes l) = rw (e, getD-set-same t n (getD t n 0 + 1) 0 l) (omega (arith, h n))
         go (other _ e) (yes l) = rw (getD-set-other t n m (getD t n 0 + 1) 0 e) (omega (arith, h m))
-
-over-same : (n : ℕ) (f g : ℕ → List ℕ) → ((k : ℕ) → k < n → f k ≡ g k) → over n f ≡ over n g
-unfolding over
-over-same zero f g h = refl
-over-same (suc n) f g h = rw (h n (omega arith), over-same n f g (λ k l. h k (omega arith)))
 
 -- the reasons of items and of the rows that d holds, by any three sets
 abbrev namesBy : (s d : List ℕ) (m : ℕ) (structs enums cxx : Words) → List ℕ

@@ -10,8 +10,7 @@ clear-requires c κs = search needs
 
 visit-items-requires : tie.Need-visit-items-requires
 visit-items-requires c κs =
-    let c₃ = c .before .before .before in
-    let c₈ = c₃ .before .before .before .before .before in
+    let c₃ = c .before .before .before in let c₈ = c₃ .before .before .before .before .before in
     held-none (c₈ .pre) (c₃ .clear .ensures)
 
 collect-names-requires : tie.Need-collect-names-requires
@@ -35,10 +34,8 @@ same-length-2 c = search needs
 
 returns : tie.Need-returns
 returns c =
-    let c₃ = c .before .before .before in
-    let c₉ = c₃ .before .before .before .before .before .before in
-    let c₁₇ = c₉ .before .before .before .before .before .before .before .before in
-    let c₂₁ = c₁₇ .before .before .before .before in
+    let c₃ = c .before .before .before in let c₉ = c₃ .before .before .before .before .before .before in
+    let c₁₇ = c₉ .before .before .before .before .before .before .before .before in let c₂₁ = c₁₇ .before .before .before .before in
     let c₂₆ = c₂₁ .before .before .before .before .before in
     whole (c₂₆ .pre) (c₂₁ .clear .ensures) (c₁₇ .visit-items .ensures) (c₁₇ .visit-items .kept .1 .0) (c₉ .collect-names .ensures)
     (c₃ .required-trivial-reasons .ensures) (c .enter-required .ensures)

@@ -16,9 +16,7 @@ duplicate-type-requires c κs =
 
 returns : tie.Need-returns
 returns c =
-    let c₁ = c .before in
-    let c₂ = c₁ .before in
-    let c₄ = c₂ .before .before in
+    let c₁ = c .before in let c₂ = c₁ .before in let c₄ = c₂ .before .before in
     of-type (c₄ .pre .item) (c₂ .is-type .ensures) (c₁ .if1 .taken) (c .duplicate-type .ensures)
 
 is-function-requires : tie.Need-is-function-requires
@@ -37,19 +35,12 @@ duplicate-function-requires c κs =
 
 returns-2 : tie.Need-returns-2
 returns-2 c =
-    let c₁ = c .before in
-    let c₂ = c₁ .before in
-    let c₃ = c₂ .before in
-    let c₄ = c₃ .before in
-    let c₆ = c₄ .before .before in
+    let c₁ = c .before in let c₂ = c₁ .before in let c₃ = c₂ .before in let c₄ = c₃ .before in let c₆ = c₄ .before .before in
     of-function (c₆ .pre .item) (c₄ .is-type .ensures) (c₃ .if1 .left) (c₂ .is-function .ensures) (c₁ .if2 .taken) (c .duplicate-function .ensures)
 
 returns-3 : tie.Need-returns-3
 returns-3 c =
-    let c₁ = c .before in
-    let c₂ = c₁ .before in
-    let c₃ = c₂ .before in
-    let c₅ = c₃ .before .before in
+    let c₁ = c .before in let c₂ = c₁ .before in let c₃ = c₂ .before in let c₅ = c₃ .before .before in
     of-other (c₅ .pre .item) (c₃ .is-type .ensures) (c₂ .if1 .left) (c₁ .is-function .ensures) (c .if2 .left)
 
 pub duplicate-spec : {M : Type 1} → statement M

@@ -22,10 +22,7 @@ is-known-requires c κs =
 
 returns-2 : tie.Need-returns-2
 returns-2 c =
-    let c₁ = c .before in
-    let c₂ = c₁ .before in
-    let c₃ = c₂ .before in
-    let c₅ = c₃ .before .before in
+    let c₁ = c .before in let c₂ = c₁ .before in let c₃ = c₂ .before in let c₅ = c₃ .before .before in
     let p = c₅ .pre in
     (c .is-known .ensures) ∙ function-known _ (p .accepted) _ (p .below) (p .is-function) (sym (c₃ .of-self .ensures) ∙ (c₂ .if1 .left)) (p .keys)
     ((c₁ .key .ensures) (p .name))

@@ -38,17 +38,8 @@ or-requires-3 c κs = search needs
 
 returns-2 : tie.Need-returns-2
 returns-2 c =
-    let c₁ = c .before in
-    let c₂ = c₁ .before in
-    let c₃ = c₂ .before in
-    let c₄ = c₃ .before in
-    let c₅ = c₄ .before in
-    let c₆ = c₅ .before in
-    let c₇ = c₆ .before in
-    let c₈ = c₇ .before in
-    let c₉ = c₈ .before in
-    let c₁₀ = c₉ .before in
-    let c₁₂ = c₁₀ .before .before in
+    let c₁ = c .before in let c₂ = c₁ .before in let c₃ = c₂ .before in let c₄ = c₃ .before in let c₅ = c₄ .before in let c₆ = c₅ .before in
+    let c₇ = c₆ .before in let c₈ = c₇ .before in let c₉ = c₈ .before in let c₁₀ = c₉ .before in let c₁₂ = c₁₀ .before .before in
     type-shared (c₁₂ .pre) (c₁₀ .contains .ensures) (not-false _ (c₉ .if1 .left)) (c₈ .has .ensures) (c₇ .has2 .ensures) (c₆ .has3 .ensures)
     (c₅ .item-is .ensures) (c₄ .item-is2 .ensures) (c₃ .or .ensures) (c₂ .if2 .taken) (rw (c₁ .or2 .ensures) at (c .or3 .ensures))
 
@@ -63,18 +54,8 @@ or-requires-4 c κs = search needs
 
 returns-3 : tie.Need-returns-3
 returns-3 c =
-    let c₁ = c .before in
-    let c₂ = c₁ .before in
-    let c₃ = c₂ .before in
-    let c₄ = c₃ .before in
-    let c₅ = c₄ .before in
-    let c₆ = c₅ .before in
-    let c₇ = c₆ .before in
-    let c₈ = c₇ .before in
-    let c₉ = c₈ .before in
-    let c₁₀ = c₉ .before in
-    let c₁₁ = c₁₀ .before in
-    let c₁₂ = c₁₁ .before in
+    let c₁ = c .before in let c₂ = c₁ .before in let c₃ = c₂ .before in let c₄ = c₃ .before in let c₅ = c₄ .before in let c₆ = c₅ .before in
+    let c₇ = c₆ .before in let c₈ = c₇ .before in let c₉ = c₈ .before in let c₁₀ = c₉ .before in let c₁₁ = c₁₀ .before in let c₁₂ = c₁₁ .before in
     let c₁₄ = c₁₂ .before .before in
     type-cxx (c₁₄ .pre) (c₁₂ .contains .ensures) (not-false _ (c₁₁ .if1 .left)) (c₁₀ .has .ensures) (c₉ .has2 .ensures) (c₈ .has3 .ensures)
     (c₇ .item-is .ensures) (c₆ .item-is2 .ensures) (c₅ .or .ensures) (c₄ .if2 .left) (c₃ .item-is3 .ensures) (c₂ .if3 .taken)
@@ -82,17 +63,8 @@ returns-3 c =
 
 returns-4 : tie.Need-returns-4
 returns-4 c =
-    let c₁ = c .before in
-    let c₂ = c₁ .before in
-    let c₃ = c₂ .before in
-    let c₄ = c₃ .before in
-    let c₅ = c₄ .before in
-    let c₆ = c₅ .before in
-    let c₇ = c₆ .before in
-    let c₈ = c₇ .before in
-    let c₉ = c₈ .before in
-    let c₁₀ = c₉ .before in
-    let c₁₂ = c₁₀ .before .before in
+    let c₁ = c .before in let c₂ = c₁ .before in let c₃ = c₂ .before in let c₄ = c₃ .before in let c₅ = c₄ .before in let c₆ = c₅ .before in
+    let c₇ = c₆ .before in let c₈ = c₇ .before in let c₉ = c₈ .before in let c₁₀ = c₉ .before in let c₁₂ = c₁₀ .before .before in
     type-other (c₁₂ .pre) (c₁₀ .contains .ensures) (not-false _ (c₉ .if1 .left)) (c₈ .has .ensures) (c₇ .has2 .ensures) (c₆ .has3 .ensures)
     (c₅ .item-is .ensures) (c₄ .item-is2 .ensures) (c₃ .or .ensures) (c₂ .if2 .left) (c₁ .item-is3 .ensures) (c .if3 .left)
 

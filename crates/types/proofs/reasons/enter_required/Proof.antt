@@ -36,8 +36,7 @@ loop-less c = omega (arith, (c .before .before .before .loop-test .taken))
 
 loop-again : tie.Need-loop-again Inv-loop μ-loop
 loop-again c =
-    let c₃ = c .before .before .before in
-    let c₄ = c₃ .before in
+    let c₃ = c .before .before .before in let c₄ = c₃ .before in
     (omega (arith, (c₃ .loop-test .taken)), required-more (c₄ .loop .inv .1) refl (c .enter-if .ensures))
 
 returns : tie.Need-returns Inv-loop μ-loop

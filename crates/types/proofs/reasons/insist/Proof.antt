@@ -38,15 +38,8 @@ mul-one-more c = search needs
 
 element-copy-out-one-more : tie.Need-element-copy-out-one-more
 element-copy-out-one-more c =
-    let c₁ = c .before in
-    let c₂ = c₁ .before in
-    let c₃ = c₂ .before in
-    let c₄ = c₃ .before in
-    let c₅ = c₄ .before in
-    let c₆ = c₅ .before in
-    let c₇ = c₆ .before in
-    let c₈ = c₇ .before in
-    let c₁₀ = c₈ .before .before in
+    let c₁ = c .before in let c₂ = c₁ .before in let c₃ = c₂ .before in let c₄ = c₃ .before in let c₅ = c₄ .before in let c₆ = c₅ .before in
+    let c₇ = c₆ .before in let c₈ = c₇ .before in let c₁₀ = c₈ .before .before in
     plain-small (c₁₀ .args .s .now) (c₁₀ .args .sets .now) (c₁₀ .args .r) (c₈ .is .ensures) (not-false _ (c₇ .if1 .left)) (c₆ .row-name .ensures)
     (c₅ .has .ensures) (c₄ .has2 .ensures) (c₃ .has3 .ensures) (c₂ .and .ensures) (c₁ .and2 .ensures) (c .if2 .taken)
 
@@ -58,45 +51,22 @@ mul-reasons c = search needs
 
 element-write-reasons : tie.Need-element-write-reasons
 element-write-reasons c =
-    let c₂ = c .before .before in
-    let c₃ = c₂ .before in
-    let c₄ = c₃ .before in
-    let c₅ = c₄ .before in
-    let c₆ = c₅ .before in
-    let c₇ = c₆ .before in
-    let c₈ = c₇ .before in
-    let c₉ = c₈ .before in
-    let c₁₀ = c₉ .before in
-    let c₁₂ = c₁₀ .before .before in
+    let c₂ = c .before .before in let c₃ = c₂ .before in let c₄ = c₃ .before in let c₅ = c₄ .before in let c₆ = c₅ .before in let c₇ = c₆ .before in
+    let c₈ = c₇ .before in let c₉ = c₈ .before in let c₁₀ = c₉ .before in let c₁₂ = c₁₀ .before .before in
     plain-small (c₁₂ .args .s .now) (c₁₂ .args .sets .now) (c₁₂ .args .r) (c₁₀ .is .ensures) (not-false _ (c₉ .if1 .left)) (c₈ .row-name .ensures)
     (c₇ .has .ensures) (c₆ .has2 .ensures) (c₅ .has3 .ensures) (c₄ .and .ensures) (c₃ .and2 .ensures) (c₂ .if2 .taken)
 
 returns-2 : tie.Need-returns-2
 returns-2 c =
-    let c₂ = c .before .before in
-    let c₃ = c₂ .before in
-    let c₄ = c₃ .before in
-    let c₅ = c₄ .before in
-    let c₆ = c₅ .before in
-    let c₇ = c₆ .before in
-    let c₈ = c₇ .before in
-    let c₉ = c₈ .before in
-    let c₁₀ = c₉ .before in
-    let c₁₂ = c₁₀ .before .before in
+    let c₂ = c .before .before in let c₃ = c₂ .before in let c₄ = c₃ .before in let c₅ = c₄ .before in let c₆ = c₅ .before in let c₇ = c₆ .before in
+    let c₈ = c₇ .before in let c₉ = c₈ .before in let c₁₀ = c₉ .before in let c₁₂ = c₁₀ .before .before in
     plain-in (c₁₂ .args .s .now) (c₁₂ .args .sets .now) (c₁₂ .args .r) (c₁₀ .is .ensures) (not-false _ (c₉ .if1 .left)) (c₈ .row-name .ensures)
     (c₇ .has .ensures) (c₆ .has2 .ensures) (c₅ .has3 .ensures) (c₄ .and .ensures) (c₃ .and2 .ensures) (c₂ .if2 .taken) _ (c .one-more .ensures)
 
 returns-3 : tie.Need-returns-3
 returns-3 c =
-    let c₁ = c .before in
-    let c₂ = c₁ .before in
-    let c₃ = c₂ .before in
-    let c₄ = c₃ .before in
-    let c₅ = c₄ .before in
-    let c₆ = c₅ .before in
-    let c₇ = c₆ .before in
-    let c₈ = c₇ .before in
-    let c₁₀ = c₈ .before .before in
+    let c₁ = c .before in let c₂ = c₁ .before in let c₃ = c₂ .before in let c₄ = c₃ .before in let c₅ = c₄ .before in let c₆ = c₅ .before in
+    let c₇ = c₆ .before in let c₈ = c₇ .before in let c₁₀ = c₈ .before .before in
     plain-out (c₁₀ .args .s .now) (c₁₀ .args .sets .now) (c₁₀ .args .r) (c₈ .is .ensures) (not-false _ (c₇ .if1 .left)) (c₆ .row-name .ensures)
     (c₅ .has .ensures) (c₄ .has2 .ensures) (c₃ .has3 .ensures) (c₂ .and .ensures) (c₁ .and2 .ensures) (c .if2 .left)
 

@@ -32,17 +32,13 @@ loop-less c = omega (arith, (c .before .before .loop-test .taken))
 
 loop-again : tie.Need-loop-again Inv-loop μ-loop
 loop-again c =
-    let c₂ = c .before .before in
-    let c₃ = c₂ .before in
-    let c₆ = c₃ .before .before .before in
+    let c₂ = c .before .before in let c₃ = c₂ .before in let c₆ = c₃ .before .before .before in
     let a = c₆ .args in
     (omega (arith, (c₂ .loop-test .taken)), over-more (ofItem (a .s .now) (a .sets .now)) (c₃ .loop .i) (c₃ .loop .inv .1) (c .insist-item .ensures))
 
 returns : tie.Need-returns Inv-loop μ-loop
 returns c =
-    let c₁ = c .before in
-    let c₂ = c₁ .before in
-    let c₄ = c₂ .before .before in
+    let c₁ = c .before in let c₂ = c₁ .before in let c₄ = c₂ .before .before in
     let a = c₄ .args in
     let e : (c₁ .loop .i) ≡ (c₂ .items .result) = omega (arith, (c .loop-test .left)) in
     over-end (ofItem (a .s .now) (a .sets .now)) (c₁ .loop .i) (c₁ .loop .inv .1) (e ∙ (c₂ .items .ensures))

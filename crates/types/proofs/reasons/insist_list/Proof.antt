@@ -30,8 +30,7 @@ insist-requires c κs = tt
 
 add-j : tie.Need-add-j Inv-loop μ-loop
 add-j c =
-    let c₃ = c .before .before .before in
-    let c₅ = c₃ .before .before in
+    let c₃ = c .before .before .before in let c₅ = c₃ .before .before in
     omega (arith, (c₃ .loop-test .taken), (c₅ .pair-at .ok))
 
 loop-less : tie.Need-loop-less Inv-loop μ-loop
@@ -39,10 +38,7 @@ loop-less c = omega (arith, (c .before .before .before .loop-test .taken))
 
 loop-again : tie.Need-loop-again Inv-loop μ-loop
 loop-again c =
-    let c₁ = c .before in
-    let c₃ = c₁ .before .before in
-    let c₄ = c₃ .before in
-    let c₇ = c₄ .before .before .before in
+    let c₁ = c .before in let c₃ = c₁ .before .before in let c₄ = c₃ .before in let c₇ = c₄ .before .before .before in
     let a = c₇ .args in
     let e = c₁ .entry .ensures in (
       omega (arith, (c₃ .loop-test .taken)),
@@ -52,9 +48,7 @@ loop-again c =
 
 returns : tie.Need-returns Inv-loop μ-loop
 returns c =
-    let c₁ = c .before in
-    let c₂ = c₁ .before in
-    let c₄ = c₂ .before .before in
+    let c₁ = c .before in let c₂ = c₁ .before in let c₄ = c₂ .before .before in
     let a = c₄ .args in
     let e : (c₁ .loop .j) ≡ (c₂ .pair-at .result) = omega (arith, (c .loop-test .left)) in
     over-end (λ j. ofPlain (a .s .now) (a .sets .now) (entry (a .s .now) (a .at) j)) (c₁ .loop .j) (c₁ .loop .inv .1) (e ∙ (c₂ .pair-at .ensures))

@@ -22,18 +22,12 @@ insist-requires c κs = search needs
 
 returns : tie.Need-returns
 returns c =
-    let c₁ = c .before in
-    let c₃ = c₁ .before .before in
-    let c₄ = c₃ .before in
-    let c₅ = c₄ .before in
-    let c₆ = c₅ .before in
+    let c₁ = c .before in let c₃ = c₁ .before .before in let c₄ = c₃ .before in let c₅ = c₄ .before in let c₆ = c₅ .before in
     row-some _ _ _ (c₆ .kind .ensures) (c₅ .or .ensures) (c₄ .or2 .ensures) (c₃ .if1 .taken) (c₁ .inner .ensures) (c .insist .ensures)
 
 returns-2 : tie.Need-returns-2
 returns-2 c =
-    let c₁ = c .before in
-    let c₂ = c₁ .before in
-    let c₃ = c₂ .before in
+    let c₁ = c .before in let c₂ = c₁ .before in let c₃ = c₂ .before in
     row-none _ _ _ (c₃ .kind .ensures) (c₂ .or .ensures) (c₁ .or2 .ensures) (c .if1 .left)
 
 pub insist-row-spec : {M : Type 1} → statement M

@@ -32,10 +32,7 @@ loop-less c = omega (arith, (c .before .before .before .loop-test .taken))
 
 loop-again : tie.Need-loop-again Inv-loop μ-loop
 loop-again c =
-    let c₁ = c .before in
-    let c₃ = c₁ .before .before in
-    let c₄ = c₃ .before in
-    let c₇ = c₄ .before .before .before in
+    let c₁ = c .before in let c₃ = c₁ .before .before in let c₄ = c₃ .before in let c₇ = c₄ .before .before .before in
     let a = c₇ .args in
     let e = c₁ .collected-row .ensures in (
       omega (arith, (c₃ .loop-test .taken)),

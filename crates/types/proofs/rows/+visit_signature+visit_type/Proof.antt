@@ -130,9 +130,7 @@ module _ (t : ℕ) where
   visit-signature-visit-type-requires : visit-signature-lts.Need-visit-type-requires (signature-calls t) (visit-signature-at t) visit-signature.Post
       visit-signature-Inv-loop visit-signature-μ-loop
   visit-signature-visit-type-requires c κs =
-      let c₁ = c .before in
-      let c₂ = c₁ .before in
-      let c₅ = c₂ .before .before .before in
+      let c₁ = c .before in let c₂ = c₁ .before in let c₅ = c₂ .before .before .before in
       let a = c₅ .args in
       let R = c₅ .pre .1 in
       let row = row-of (a .s .now) (R .ready .walk .accepted) (a .row) (R .ready .below) in
@@ -165,9 +163,7 @@ module _ (t : ℕ) where
   visit-signature-loop-holds : visit-signature-lts.Need-loop-holds (signature-calls t) (visit-signature-at t) visit-signature.Post visit-signature-Inv-loop
       visit-signature-μ-loop
   visit-signature-loop-holds c =
-      let c₁ = c .before in
-      let c₂ = c₁ .before in
-      let c₆ = c₂ .before .before .before .before in
+      let c₁ = c .before in let c₂ = c₁ .before in let c₆ = c₂ .before .before .before .before in
       let a = c₆ .args in
       let R = c₆ .pre .1 in
       let row = row-of (a .s .now) (R .ready .walk .accepted) (a .row) (R .ready .below) in
@@ -180,12 +176,7 @@ module _ (t : ℕ) where
   visit-signature-visit-type-requires-2 : visit-signature-lts.Need-visit-type-requires-2 (signature-calls t) (visit-signature-at t) visit-signature.Post
       visit-signature-Inv-loop visit-signature-μ-loop
   visit-signature-visit-type-requires-2 c κs =
-      let c₁ = c .before in
-      let c₂ = c₁ .before in
-      let c₃ = c₂ .before in
-      let c₄ = c₃ .before in
-      let c₅ = c₄ .before in
-      let c₆ = c₅ .before in
+      let c₁ = c .before in let c₂ = c₁ .before in let c₃ = c₂ .before in let c₄ = c₃ .before in let c₅ = c₄ .before in let c₆ = c₅ .before in
       let c₁₀ = c₆ .before .before .before .before in
       let a = c₁₀ .args in
       let R = c₁₀ .pre .1 in
@@ -213,13 +204,8 @@ module _ (t : ℕ) where
   visit-signature-loop-again : visit-signature-lts.Need-loop-again (signature-calls t) (visit-signature-at t) visit-signature.Post visit-signature-Inv-loop
       visit-signature-μ-loop
   visit-signature-loop-again c =
-      let c₂ = c .before .before in
-      let c₄ = c₂ .before .before in
-      let c₅ = c₄ .before in
-      let c₆ = c₅ .before in
-      let c₇ = c₆ .before in
-      let c₈ = c₇ .before in
-      let c₁₃ = c₈ .before .before .before .before .before in
+      let c₂ = c .before .before in let c₄ = c₂ .before .before in let c₅ = c₄ .before in let c₆ = c₅ .before in let c₇ = c₆ .before in
+      let c₈ = c₇ .before in let c₁₃ = c₈ .before .before .before .before .before in
       let a = c₁₃ .args in
       let R = c₁₃ .pre .1 in
       let row = row-of (a .s .now) (R .ready .walk .accepted) (a .row) (R .ready .below) in
@@ -236,11 +222,7 @@ module _ (t : ℕ) where
   visit-signature-returns : visit-signature-lts.Need-returns (signature-calls t) (visit-signature-at t) visit-signature.Post visit-signature-Inv-loop
       visit-signature-μ-loop
   visit-signature-returns c =
-      let c₁ = c .before in
-      let c₂ = c₁ .before in
-      let c₃ = c₂ .before in
-      let c₄ = c₃ .before in
-      let c₈ = c₄ .before .before .before .before in
+      let c₁ = c .before in let c₂ = c₁ .before in let c₃ = c₂ .before in let c₄ = c₃ .before in let c₈ = c₄ .before .before .before .before in
       let a = c₈ .args in
       let R = c₈ .pre .1 in
       let row = row-of (a .s .now) (R .ready .walk .accepted) (a .row) (R .ready .below) in
@@ -260,17 +242,14 @@ module _ (t : ℕ) where
 
   visit-type-returns : visit-type-lts.Need-returns (type-calls t) (visit-type-at t) visit-type.Post
   visit-type-returns c =
-      let c₁ = c .before in
-      let c₅ = c₁ .before .before .before .before in
+      let c₁ = c .before in let c₅ = c₁ .before .before .before .before in
       let a = c₅ .args in
       let R = c₅ .pre .1 in
       old R (sym (c₁ .seen .ensures) ∙ (c .if1 .taken))
 
   visit-type-add-requires : visit-type-lts.Need-add-requires (type-calls t) (visit-type-at t) visit-type.Post
   visit-type-add-requires c κs =
-      let c₁ = c .before in
-      let c₂ = c₁ .before in
-      let c₆ = c₂ .before .before .before .before in
+      let c₁ = c .before in let c₂ = c₁ .before in let c₆ = c₂ .before .before .before .before in
       let a = c₆ .args in
       let R = c₆ .pre .1 in
       let o = sym (c₂ .seen .ensures) ∙ (c₁ .if1 .left) in
@@ -287,11 +266,7 @@ module _ (t : ℕ) where
 
   visit-type-returns-2 : visit-type-lts.Need-returns-2 (type-calls t) (visit-type-at t) visit-type.Post
   visit-type-returns-2 c =
-      let c₁ = c .before in
-      let c₂ = c₁ .before in
-      let c₅ = c₂ .before .before .before in
-      let c₇ = c₅ .before .before in
-      let c₈ = c₇ .before in
+      let c₁ = c .before in let c₂ = c₁ .before in let c₅ = c₂ .before .before .before in let c₇ = c₅ .before .before in let c₈ = c₇ .before in
       let c₁₂ = c₈ .before .before .before .before in
       let a = c₁₂ .args in
       let R = c₁₂ .pre .1 in
@@ -302,9 +277,7 @@ module _ (t : ℕ) where
 
   visit-type-visit-signature-requires : visit-type-lts.Need-visit-signature-requires (type-calls t) (visit-type-at t) visit-type.Post
   visit-type-visit-signature-requires c κs =
-      let c₁ = c .before in
-      let c₄ = c₁ .before .before .before in
-      let c₇ = c₄ .before .before .before in
+      let c₁ = c .before in let c₄ = c₁ .before .before .before in let c₇ = c₄ .before .before .before in
       let c₁₄ = c₇ .before .before .before .before .before .before .before in
       let a = c₁₄ .args in
       let R = c₁₄ .pre .1 in
@@ -320,19 +293,13 @@ module _ (t : ℕ) where
 
   visit-type-same-length-3 : visit-type-lts.Need-same-length-3 (type-calls t) (visit-type-at t) visit-type.Post
   visit-type-same-length-3 c =
-      let c₂ = c .before .before in
-      let c₁₀ = c₂ .before .before .before .before .before .before .before .before in
+      let c₂ = c .before .before in let c₁₀ = c₂ .before .before .before .before .before .before .before .before in
       (c₂ .visit-signature .kept .1 .0) ∙ (c₁₀ .add .kept .0)
 
   visit-type-returns-3 : visit-type-lts.Need-returns-3 (type-calls t) (visit-type-at t) visit-type.Post
   visit-type-returns-3 c =
-      let c₂ = c .before .before in
-      let c₄ = c₂ .before .before in
-      let c₇ = c₄ .before .before .before in
-      let c₁₀ = c₇ .before .before .before in
-      let c₁₂ = c₁₀ .before .before in
-      let c₁₃ = c₁₂ .before in
-      let c₁₇ = c₁₃ .before .before .before .before in
+      let c₂ = c .before .before in let c₄ = c₂ .before .before in let c₇ = c₄ .before .before .before in let c₁₀ = c₇ .before .before .before in
+      let c₁₂ = c₁₀ .before .before in let c₁₃ = c₁₂ .before in let c₁₇ = c₁₃ .before .before .before .before in
       let a = c₁₇ .args in
       let R = c₁₇ .pre .1 in
       let o = sym (c₁₃ .seen .ensures) ∙ (c₁₂ .if1 .left) in
@@ -343,13 +310,8 @@ module _ (t : ℕ) where
 
   visit-type-visit-type-requires : visit-type-lts.Need-visit-type-requires (type-calls t) (visit-type-at t) visit-type.Post
   visit-type-visit-type-requires c κs =
-      let c₁ = c .before in
-      let c₂ = c₁ .before in
-      let c₃ = c₂ .before in
-      let c₄ = c₃ .before in
-      let c₅ = c₄ .before in
-      let c₈ = c₅ .before .before .before in
-      let c₁₅ = c₈ .before .before .before .before .before .before .before in
+      let c₁ = c .before in let c₂ = c₁ .before in let c₃ = c₂ .before in let c₄ = c₃ .before in let c₅ = c₄ .before in
+      let c₈ = c₅ .before .before .before in let c₁₅ = c₈ .before .before .before .before .before .before .before in
       let a = c₁₅ .args in
       let R = c₁₅ .pre .1 in
       let d = c₈ .add in
@@ -361,21 +323,13 @@ module _ (t : ℕ) where
 
   visit-type-same-length-4 : visit-type-lts.Need-same-length-4 (type-calls t) (visit-type-at t) visit-type.Post
   visit-type-same-length-4 c =
-      let c₂ = c .before .before in
-      let c₁₁ = c₂ .before .before .before .before .before .before .before .before .before in
+      let c₂ = c .before .before in let c₁₁ = c₂ .before .before .before .before .before .before .before .before .before in
       (c₂ .visit-type .kept .1 .0) ∙ (c₁₁ .add .kept .0)
 
   visit-type-returns-4 : visit-type-lts.Need-returns-4 (type-calls t) (visit-type-at t) visit-type.Post
   visit-type-returns-4 c =
-      let c₂ = c .before .before in
-      let c₄ = c₂ .before .before in
-      let c₅ = c₄ .before in
-      let c₆ = c₅ .before in
-      let c₇ = c₆ .before in
-      let c₈ = c₇ .before in
-      let c₁₁ = c₈ .before .before .before in
-      let c₁₃ = c₁₁ .before .before in
-      let c₁₄ = c₁₃ .before in
+      let c₂ = c .before .before in let c₄ = c₂ .before .before in let c₅ = c₄ .before in let c₆ = c₅ .before in let c₇ = c₆ .before in
+      let c₈ = c₇ .before in let c₁₁ = c₈ .before .before .before in let c₁₃ = c₁₁ .before .before in let c₁₄ = c₁₃ .before in
       let c₁₈ = c₁₄ .before .before .before .before in
       let a = c₁₈ .args in
       let R = c₁₈ .pre .1 in

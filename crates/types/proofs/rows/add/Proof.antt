@@ -4,7 +4,7 @@ use borrow.Author.Needs.{needs}
 use mathlib.Core.Path.{sym, _∙_}
 use native.Mathlib.Omega.{arith}
 use Rattle.types.specs.Scratch.{rowsOf}
-use Rattle.types.proofs.Room.{room-less}
+use Rattle.types.proofs.AboutRules.{room-less}
 use Rattle.types.proofs.Stored.{added}
 use Rattle.types.proofs.rows.add.Statement.{statement}
 use Rattle.types.proofs.rows.add.Tie as tie
@@ -29,9 +29,7 @@ same-length c = search needs
 
 returns : tie.Need-returns
 returns c =
-    let c₂ = c .before .before in
-    let c₆ = c₂ .before .before .before .before in
-    let c₉ = c₆ .before .before .before in
+    let c₂ = c .before .before in let c₆ = c₂ .before .before .before .before in let c₉ = c₆ .before .before .before in
     let a = c₉ .args in
     let p = c₉ .pre in
     let out = sym (p .1 .0 .marks (a .r) (p .0 .0)) ∙ p .1 .1 in

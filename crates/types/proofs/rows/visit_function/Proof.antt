@@ -13,15 +13,12 @@ return-place-requires c κs = search needs
 
 add-visit-list : tie.Need-add-visit-list
 add-visit-list c =
-    let c₁ = c .before in
-    let c₃ = c₁ .before .before in
-    let c₄ = c₃ .before in
+    let c₁ = c .before in let c₃ = c₁ .before .before in let c₄ = c₃ .before in
     omega (arith, (c₁ .return-place .ensures), place-small (c₄ .args .s .now) (λ i. omega (arith, (c₃ .shared-slice-known .given) i)) (c₄ .args .i))
 
 visit-list-requires : tie.Need-visit-list-requires
 visit-list-requires c κs =
-    let c₁ = c .before in
-    let c₄ = c₁ .before .before .before in
+    let c₁ = c .before in let c₄ = c₁ .before .before .before in
     let p = c₄ .pre .ready in
     record { walk = p .walk; below = args-below _ (p .walk .accepted) _ (p .below) (c₄ .pre .is-function) (c₁ .return-place .ensures) }
 
@@ -33,10 +30,7 @@ pair-at-requires c κs = search needs
 
 visit-return-requires : tie.Need-visit-return-requires
 visit-return-requires c κs =
-    let c₁ = c .before in
-    let c₄ = c₁ .before .before .before in
-    let c₆ = c₄ .before .before in
-    let c₉ = c₆ .before .before .before in
+    let c₁ = c .before in let c₄ = c₁ .before .before .before in let c₆ = c₄ .before .before in let c₉ = c₆ .before .before .before in
     let p = c₉ .pre .ready in
     let v = c₄ .visit-list in
     record {
@@ -49,10 +43,7 @@ same-length c = search needs
 
 returns : tie.Need-returns
 returns c =
-    let c₂ = c .before .before in
-    let c₄ = c₂ .before .before in
-    let c₇ = c₄ .before .before .before in
-    let c₉ = c₇ .before .before in
+    let c₂ = c .before .before in let c₄ = c₂ .before .before in let c₇ = c₄ .before .before .before in let c₉ = c₇ .before .before in
     function-walk _ (c₉ .return-place .ensures) (c₄ .pair-at .ensures) (c₇ .visit-list .ensures) (c₂ .visit-return .ensures)
 
 pub visit-function-spec : {M : Type 1} → statement M

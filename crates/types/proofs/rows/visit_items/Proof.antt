@@ -28,10 +28,7 @@ loop-holds c = (refl, omega arith, items-none (c .before .before .before .pre))
 
 visit-item-requires : tie.Need-visit-item-requires Inv-loop μ-loop
 visit-item-requires c κs =
-    let c₁ = c .before in
-    let c₂ = c₁ .before in
-    let c₃ = c₂ .before in
-    let c₆ = c₃ .before .before .before in
+    let c₁ = c .before in let c₂ = c₁ .before in let c₃ = c₂ .before in let c₆ = c₃ .before .before .before in
     let l = c₂ .loop in
     record {
       walk = held-next (c₆ .pre) (l .inv .2 .grown _ (le-refl _) .held) (l .inv .0);
@@ -46,9 +43,7 @@ loop-less c = omega (arith, (c .before .before .before .before .loop-test .taken
 
 loop-again : tie.Need-loop-again Inv-loop μ-loop
 loop-again c =
-    let c₂ = c .before .before in
-    let c₄ = c₂ .before .before in
-    let c₅ = c₄ .before in
+    let c₂ = c .before .before in let c₄ = c₂ .before .before in let c₅ = c₄ .before in
     let l = c₅ .loop in
     let v = c₂ .visit-item in
     (v .kept .1 .0 ∙ l .inv .0, omega (arith, (c₄ .loop-test .taken)), items-more (l .i) (l .inv .2) (v .ensures))
@@ -58,9 +53,7 @@ same-length c = c .before .loop .inv .0
 
 returns : tie.Need-returns Inv-loop μ-loop
 returns c =
-    let c₁ = c .before in
-    let c₂ = c₁ .before in
-    let c₅ = c₂ .before .before .before in
+    let c₁ = c .before in let c₂ = c₁ .before in let c₅ = c₂ .before .before .before in
     let l = c₁ .loop in
     items-end (l .i) (c₅ .pre .accepted) (l .inv .2) (omega (arith, (c .loop-test .left), (c₂ .items .ensures)))
 

@@ -29,11 +29,7 @@ entry-requires c κs = search needs
 
 visit-type-requires : tie.Need-visit-type-requires Inv-loop μ-loop
 visit-type-requires c κs =
-    let c₁ = c .before in
-    let c₂ = c₁ .before in
-    let c₃ = c₂ .before in
-    let c₄ = c₃ .before in
-    let c₇ = c₄ .before .before .before in
+    let c₁ = c .before in let c₂ = c₁ .before in let c₃ = c₂ .before in let c₄ = c₃ .before in let c₇ = c₄ .before .before .before in
     let p = c₇ .pre in
     let l = c₃ .loop in
     let g = c₂ .loop-test .taken in
@@ -49,11 +45,7 @@ loop-less c = omega (arith, (c .before .before .before .before .before .loop-tes
 
 loop-again : tie.Need-loop-again Inv-loop μ-loop
 loop-again c =
-    let c₂ = c .before .before in
-    let c₄ = c₂ .before .before in
-    let c₅ = c₄ .before in
-    let c₆ = c₅ .before in
-    let c₇ = c₆ .before in
+    let c₂ = c .before .before in let c₄ = c₂ .before .before in let c₅ = c₄ .before in let c₆ = c₅ .before in let c₇ = c₆ .before in
     let c₁₀ = c₇ .before .before .before in
     let p = c₁₀ .pre in
     let l = c₆ .loop in

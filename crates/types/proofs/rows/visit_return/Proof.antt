@@ -10,8 +10,7 @@ returns c = none (c .before .before .before .pre .walk) (c .if1 .taken)
 
 visit-type-requires : tie.Need-visit-type-requires
 visit-type-requires c κs =
-    let c₁ = c .before in
-    let c₄ = c₁ .before .before .before in
+    let c₁ = c .before in let c₄ = c₁ .before .before .before in
     record { walk = c₄ .pre .walk; below = not-none (c₄ .pre .below) (c₁ .if1 .left) }
 
 same-length : tie.Need-same-length
@@ -19,9 +18,7 @@ same-length c = search needs
 
 returns-2 : tie.Need-returns-2
 returns-2 c =
-    let c₂ = c .before .before in
-    let c₄ = c₂ .before .before in
-    let c₇ = c₄ .before .before .before in
+    let c₂ = c .before .before in let c₄ = c₂ .before .before in let c₇ = c₄ .before .before .before in
     one (c₄ .if1 .left) (not-none (c₇ .pre .below) (c₄ .if1 .left)) (c₂ .visit-type .ensures)
 
 pub visit-return-spec : {M : Type 1} → statement M

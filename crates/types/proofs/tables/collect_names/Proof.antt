@@ -34,11 +34,7 @@ item-name-requires c κs = tt
 
 duplicate-requires : tie.Need-duplicate-requires Inv-loop μ-loop
 duplicate-requires c κs =
-    let c₂ = c .before .before in
-    let c₃ = c₂ .before in
-    let c₄ = c₃ .before in
-    let c₅ = c₄ .before in
-    let c₇ = c₅ .before .before in
+    let c₂ = c .before .before in let c₃ = c₂ .before in let c₄ = c₃ .before in let c₅ = c₄ .before in let c₇ = c₅ .before .before in
     let c₁₀ = c₇ .before .before .before in
     let l = c₅ .loop in
     let h = item-is (c₁₀ .pre .accepted) (c₇ .items .ensures) (c₄ .loop-test .taken) (c₃ .item-kind .ensures) (c₂ .item-name .ensures) in
@@ -52,24 +48,16 @@ enter-known-requires c κs = tt
 
 enter-sets-requires : tie.Need-enter-sets-requires Inv-loop μ-loop
 enter-sets-requires c κs =
-    let c₉ = c .before .before .before .before .before .before .before .before .before in
-    let c₁₀ = c₉ .before in
-    let c₁₁ = c₁₀ .before in
-    let c₁₂ = c₁₁ .before in
-    let c₁₄ = c₁₂ .before .before in
-    let c₁₇ = c₁₄ .before .before .before in
+    let c₉ = c .before .before .before .before .before .before .before .before .before in let c₁₀ = c₉ .before in let c₁₁ = c₁₀ .before in
+    let c₁₂ = c₁₁ .before in let c₁₄ = c₁₂ .before .before in let c₁₇ = c₁₄ .before .before .before in
     let l = c₁₂ .loop in
     let h = item-is (c₁₇ .pre .accepted) (c₁₄ .items .ensures) (c₁₁ .loop-test .taken) (c₁₀ .item-kind .ensures) (c₉ .item-name .ensures) in
     record { item = h; sets = l .inv .1 .sets }
 
 enter-lasts-requires : tie.Need-enter-lasts-requires Inv-loop μ-loop
 enter-lasts-requires c κs =
-    let c₁₃ = c .before .before .before .before .before .before .before .before .before .before .before .before .before in
-    let c₁₄ = c₁₃ .before in
-    let c₁₅ = c₁₄ .before in
-    let c₁₆ = c₁₅ .before in
-    let c₁₈ = c₁₆ .before .before in
-    let c₂₁ = c₁₈ .before .before .before in
+    let c₁₃ = c .before .before .before .before .before .before .before .before .before .before .before .before .before in let c₁₄ = c₁₃ .before in
+    let c₁₅ = c₁₄ .before in let c₁₆ = c₁₅ .before in let c₁₈ = c₁₆ .before .before in let c₂₁ = c₁₈ .before .before .before in
     let l = c₁₆ .loop in
     let h = item-is (c₂₁ .pre .accepted) (c₁₈ .items .ensures) (c₁₅ .loop-test .taken) (c₁₄ .item-kind .ensures) (c₁₃ .item-name .ensures) in
     record { item = h; last = l .inv .1 .last }
@@ -77,11 +65,7 @@ enter-lasts-requires c κs =
 enter-function-requires : tie.Need-enter-function-requires Inv-loop μ-loop
 enter-function-requires c κs =
     let c₁₅ = c .before .before .before .before .before .before .before .before .before .before .before .before .before .before .before in
-    let c₁₆ = c₁₅ .before in
-    let c₁₇ = c₁₆ .before in
-    let c₁₈ = c₁₇ .before in
-    let c₂₀ = c₁₈ .before .before in
-    let c₂₃ = c₂₀ .before .before .before in
+    let c₁₆ = c₁₅ .before in let c₁₇ = c₁₆ .before in let c₁₈ = c₁₇ .before in let c₂₀ = c₁₈ .before .before in let c₂₃ = c₂₀ .before .before .before in
     let l = c₁₈ .loop in
     let h = item-is (c₂₃ .pre .accepted) (c₂₀ .items .ensures) (c₁₇ .loop-test .taken) (c₁₆ .item-kind .ensures) (c₁₅ .item-name .ensures) in
     record { item = h; keys = l .inv .1 .keys }
@@ -101,17 +85,9 @@ loop-less c =
 
 loop-again : tie.Need-loop-again Inv-loop μ-loop
 loop-again c =
-    let c₂ = c .before .before in
-    let c₆ = c₂ .before .before .before .before in
-    let c₈ = c₆ .before .before in
-    let c₁₁ = c₈ .before .before .before in
-    let c₁₃ = c₁₁ .before .before in
-    let c₁₆ = c₁₃ .before .before .before in
-    let c₁₇ = c₁₆ .before in
-    let c₁₈ = c₁₇ .before in
-    let c₁₉ = c₁₈ .before in
-    let c₂₁ = c₁₉ .before .before in
-    let c₂₄ = c₂₁ .before .before .before in
+    let c₂ = c .before .before in let c₆ = c₂ .before .before .before .before in let c₈ = c₆ .before .before in let c₁₁ = c₈ .before .before .before in
+    let c₁₃ = c₁₁ .before .before in let c₁₆ = c₁₃ .before .before .before in let c₁₇ = c₁₆ .before in let c₁₈ = c₁₇ .before in let c₁₉ = c₁₈ .before in
+    let c₂₁ = c₁₉ .before .before in let c₂₄ = c₂₁ .before .before .before in
     let l = c₁₉ .loop in
     let h = item-is (c₂₄ .pre .accepted) (c₂₁ .items .ensures) (c₁₈ .loop-test .taken) (c₁₇ .item-kind .ensures) (c₁₆ .item-name .ensures) in (
       omega (arith, (c₁₈ .loop-test .taken)),

@@ -33,11 +33,7 @@ last-if-requires-3 c κs =
 
 returns : tie.Need-returns
 returns c =
-    let c₁ = c .before in
-    let c₃ = c₁ .before .before in
-    let c₅ = c₃ .before .before in
-    let c₇ = c₅ .before .before in
-    let c₈ = c₇ .before in
+    let c₁ = c .before in let c₃ = c₁ .before .before in let c₅ = c₃ .before .before in let c₇ = c₅ .before .before in let c₈ = c₇ .before in
     let c₁₀ = c₈ .before .before in
     lasts-next (c₁₀ .pre .item) (c₁₀ .pre .last) (c₅ .last-if .ensures) (c₃ .last-if2 .ensures) (c .last-if3 .ensures) (c₈ .type-trusted .ensures)
     (c₇ .and .ensures) (c₁ .is-type .ensures)

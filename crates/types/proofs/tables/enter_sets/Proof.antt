@@ -35,15 +35,8 @@ enter-if-requires-6 c κs = (omega arith, (c .before .enter-if5 .ensures .long))
 
 returns : tie.Need-returns
 returns c =
-    let c₂ = c .before .before in
-    let c₄ = c₂ .before .before in
-    let c₆ = c₄ .before .before in
-    let c₇ = c₆ .before in
-    let c₉ = c₇ .before .before in
-    let c₁₁ = c₉ .before .before in
-    let c₁₃ = c₁₁ .before .before in
-    let c₁₄ = c₁₃ .before in
-    let c₁₆ = c₁₄ .before .before in
+    let c₂ = c .before .before in let c₄ = c₂ .before .before in let c₆ = c₄ .before .before in let c₇ = c₆ .before in let c₉ = c₇ .before .before in
+    let c₁₁ = c₉ .before .before in let c₁₃ = c₁₁ .before .before in let c₁₄ = c₁₃ .before in let c₁₆ = c₁₄ .before .before in
     let p = c₁₆ .pre in
     named-next (p .item) (p .sets) (c₁₁ .enter-if .ensures) (c₉ .enter-if2 .ensures) (c₆ .enter-if3 .ensures) (c₄ .enter-if4 .ensures)
     (c₂ .enter-if5 .ensures) (c .enter-if6 .ensures)
