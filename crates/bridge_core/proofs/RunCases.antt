@@ -1,9 +1,9 @@
 -- How a run comes to its contract: a sheet that is refused, one that is accepted, and what the errors of the whole report leave in the window.
 -- Assumes nothing.
-use mathlib.Core.Path.{_≡_, refl, sym, _∙_, ap, subst}
-use Prim.Native.Nat.{ℕ, _+_, _-_, _≤_}
+use mathlib.Core.Path.{_≡_, sym, _∙_, ap}
+use Prim.Native.Nat.{ℕ, _-_, _≤_}
 use native.Mathlib.Omega.{arith}
-use mathlib.Core.List.{List, [], map}
+use mathlib.Core.List.{List, map}
 use lib.ListN.{length, drop}
 use lib.Seq.{sets, drop-nil}
 use Rattle.rules.specs.declared.Step.{Step}

@@ -1,28 +1,24 @@
 -- One run over an accepted sheet, from what its steps ensure: the reports joined are the full report, the parts of the answer are the rules', and the scratch is as if it had
 -- been cleared once.
 -- Assumes nothing.
-use mathlib.Core.Path.{_≡_, refl, sym, _∙_, ap, subst}
-use Prim.Native.Nat.{ℕ, _+_, _*_, _≤_, _<_}
+use mathlib.Core.Path.{_≡_, sym, _∙_, ap}
+use Prim.Native.Nat.{ℕ, _≤_}
 use native.Mathlib.Omega.{arith}
-use mathlib.Core.List.{List, [], _∷_, _++_, map, append-assoc}
-use lib.ListN.{length, getD, drop, replicate, length-replicate}
+use mathlib.Core.List.{List, _++_, append-assoc}
+use lib.ListN.{length, drop, replicate, length-replicate}
 use lib.Seq.{drop-at, drop-drop}
-use Rattle.rules.specs.declared.Diagnostic.{Diagnostic}
 use Rattle.rules.specs.declared.Answer.{Answer}
-use Rattle.rules.specs.Base.{over}
 use Rattle.rules.specs.Format.{Accepted}
-use Rattle.rules.specs.View.{items}
 use Rattle.rules.specs.Collect.{duplicates}
 use Rattle.rules.specs.Types.{typesOf}
 use Rattle.rules.specs.Order.{walkOf}
-use Rattle.rules.specs.Check.{check-type, check-api}
 use Rattle.rules.specs.Report.{report, reportOf}
 use Rattle.rules.specs.Answer.{setsOf, accepted, cleared}
 use Rattle.errors.specs.declared.Errors.{Errors}
 use Rattle.errors.specs.Sink.{most, Reported, also, meant}
 use Rattle.laws.proofs.Bounds.Total.{total-few}
 use Rattle.types.specs.declared.Collected.{Collected}
-use Rattle.types.specs.Post.{IsTypes, Collectable, Collects}
+use Rattle.types.specs.Post.{Collects}
 use Rattle.toposort.specs.declared.Sorted.{Sorted}
 use Rattle.toposort.specs.Post.{Sorts, Tiered}
 use Rattle.improper.specs.Post.{Searched}

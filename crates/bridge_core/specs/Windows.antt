@@ -1,6 +1,5 @@
 -- The list is filled window by window, each of at most 4,096 codes.
 -- Assumes nothing: these are definitions.
-use mathlib.Core.Path.{_≡_}
 use Prim.Native.Nat.{ℕ, _+_, _-_}
 use mathlib.Core.Bool.{Bool, true, false}
 use lib.Dec.{ltb}

@@ -1,18 +1,15 @@
 -- What a window holds when all is reported: the codes from number `from` on, as many as fit. By induction on the list of diagnostics.
 -- Assumes nothing.
-use Prim.Native.Nat.{ℕ, zero, suc, _+_, _-_, _≤_, _<_}
-use mathlib.Core.Path.{_≡_, refl, sym, ap, _∙_}
+use Prim.Native.Nat.{ℕ, zero, suc, _+_, _-_, _≤_}
+use mathlib.Core.Path.{_≡_, refl, _∙_}
 use mathlib.Core.List.{List, [], _∷_, map}
 use native.Mathlib.Omega.{arith}
 use native.Mathlib.Decide.{decLe}
-use native.Mathlib.Numerals.{add-one}
 use lib.ListN.{length, set, drop}
 use lib.Seq.{sets}
-use borrow.Author.Tests.{lt-ltb}
 use Rattle.rules.specs.declared.Diagnostic.{Diagnostic}
-use Rattle.rules.specs.Base.{if_then_else_}
 use Rattle.errors.specs.Codes.{codeOf}
-use Rattle.errors.specs.Sink.{most, next, keep, putFrom}
+use Rattle.errors.specs.Sink.{most, keep, putFrom}
 use Rattle.errors.proofs.Laws.{next-more, keep-out, keep-in}
 
 drop-nil : (n : ℕ) → drop {A = ℕ} n [] ≡ []

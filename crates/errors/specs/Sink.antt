@@ -1,7 +1,7 @@
 -- What a function that reports errors leaves: how many there are so far, and a window of their codes. One law appends (`also`), and one goes with each form of
 -- the definitions: `when`, branches that return, loops over `over`. Nothing else is ever shown about such a buffer.
 -- Assumes nothing.
-use Prim.Native.Nat.{ℕ, zero, suc, _+_, _-_, _*_, _≤_}
+use Prim.Native.Nat.{ℕ, zero, suc, _+_, _-_, _≤_}
 use mathlib.Core.Path.{_≡_, refl, sym, ap, subst, _∙_}
 use mathlib.Core.Bool.{Bool, true, false, not}
 use mathlib.Core.List.{List, [], _∷_, _++_}
@@ -12,7 +12,7 @@ use native.Mathlib.Omega.{arith}
 use borrow.Author.Tests.{lt-ltb}
 use Rattle.rules.specs.declared.Diagnostic.{Diagnostic}
 use Rattle.rules.specs.Base.{if_then_else_, over}
-use Rattle.rules.specs.Diagnostics.{say, tell, when}
+use Rattle.rules.specs.Diagnostics.{when}
 use Rattle.errors.specs.declared.Errors.{Errors}
 use Rattle.errors.specs.Codes.{codeOf}
 

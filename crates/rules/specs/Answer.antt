@@ -2,7 +2,7 @@
 -- Assumes nothing: these are definitions.
 use Prim.Native.Nat.{ℕ, zero, suc}
 use mathlib.Core.List.{List, [], _∷_, _++_, map}
-use lib.ListN.{length, getD, drop, replicate}
+use lib.ListN.{length, drop, replicate}
 use lib.Seq.{sets}
 use lib.Dec.{leb}
 use Rattle.rules.specs.declared.Step.{Step}

@@ -11,7 +11,7 @@ use Rattle.rules.specs.declared.Diagnostic.{Diagnostic}
 use Rattle.rules.specs.Base.{if_then_else_, over, anyOf}
 use Rattle.rules.specs.Diagnostics.{say, tell, when, bit}
 use Rattle.rules.specs.Names.{_∋_, isAtom, isReserved, nameBool, nameChar, nameCxxString, nameRustString, nameSelf}
-use Rattle.rules.specs.View.{Ident, RustBox, RustVec, UniquePtr, SharedPtr, WeakPtr, CxxVector, Ref, Ptr, Str, SliceRef, Array, Fn, Void, flag1, flag2, rows, kind, is, rowName, rowFlags, inner, fnArgCount, fnArg, shown, CxxType, RustType, CxxFunction, RustFunction, itemKind, itemIs, itemName, lifetimeCount, lifetime, deriveCount, derive, fieldCount, field, enumExplicit, enumVariants, enumDefaults, typeBounds, functionUnsafe, functionTrusted, functionUnwind, isMethod, isFree, selfType, receiverMutable, receiverPinned, return, hasReturn, argCount, arg, args, implRow, implNegative}
+use Rattle.rules.specs.View.{Ident, RustBox, RustVec, UniquePtr, SharedPtr, WeakPtr, CxxVector, Ref, Ptr, Str, SliceRef, Array, Fn, Void, flag1, flag2, rows, kind, is, rowName, rowFlags, inner, fnArgCount, fnArg, shown, RustType, CxxFunction, RustFunction, itemKind, itemIs, itemName, lifetimeCount, lifetime, deriveCount, derive, fieldCount, field, enumExplicit, enumVariants, enumDefaults, typeBounds, functionUnsafe, functionTrusted, functionUnwind, isMethod, isFree, selfType, receiverMutable, receiverPinned, return, hasReturn, argCount, arg, args, implRow, implNegative}
 use Rattle.rules.specs.Collect.{none}
 use Rattle.rules.specs.Types.{Types}
 

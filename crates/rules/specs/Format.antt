@@ -1,11 +1,11 @@
 -- Which lists of bytes are bridge sheets, and which refusal any other list gets: document 01, "The sheet" and "Refused sheets".
 -- A step of the reader goes from a place to the place after what it read, or to a refusal with its number and position.
 -- Assumes nothing: these are definitions.
-use Prim.Native.Nat.{ℕ, zero, suc, _+_, _-_, _*_, _<_}
+use Prim.Native.Nat.{ℕ, zero, suc, _+_, _-_, _*_}
 use mathlib.Core.Path.{_≡_}
 use mathlib.Core.List.{List, [], _∷_}
-use mathlib.Core.Bool.{Bool, true, false, not, _&&_, _||_}
-use lib.ListN.{length, getD, take, drop}
+use mathlib.Core.Bool.{Bool, true, false, _&&_, _||_}
+use lib.ListN.{length, getD}
 use lib.Dec.{ltb, leb, eqb}
 use Rattle.rules.specs.declared.Step.{Step}
 use Rattle.rules.specs.declared.Step.the-variants.{Next, Refused}

@@ -1,9 +1,8 @@
 -- The search for improper structs as improper.rs and the end of `Types::collect` have it, pass after pass until one finds none; and what it is to find, over chains.
 -- Assumes nothing: these are definitions.
-use mathlib.Core.Path.{_≡_}
 use mathlib.Core.Bool.{Bool, true, false, _||_}
 use mathlib.Core.List.{List}
-use Prim.Native.Nat.{ℕ, zero, suc, _<_}
+use Prim.Native.Nat.{ℕ, zero, suc}
 use lib.Dec.{eqb}
 use Rattle.rules.specs.Base.{if_then_else_}
 use Rattle.rules.specs.Names.{Words, empty, add, _∋_, isAtom, nameRustString}

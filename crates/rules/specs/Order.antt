@@ -2,7 +2,7 @@
 -- Assumes nothing: these are definitions.
 use Prim.Native.Nat.{ℕ}
 use mathlib.Core.List.{List}
-use mathlib.Core.Bool.{Bool, true, false, _&&_}
+use mathlib.Core.Bool.{_&&_}
 use lib.Dec.{ltb}
 use Rattle.rules.specs.Base.{if_then_else_}
 use Rattle.rules.specs.View.{Ident, is, rowName, Struct, items, itemIs, fieldCount, field}

@@ -1,7 +1,7 @@
 -- The full report of a sheet: message 1 by items, 2 by the walk, then the collected rows, then the items (`do_typecheck` of check.rs).
 -- Assumes nothing: these are definitions.
 use Prim.Native.Nat.{ℕ}
-use mathlib.Core.List.{List, [], _∷_, _++_}
+use mathlib.Core.List.{List, _++_}
 use lib.ListN.{length, getD}
 use Rattle.rules.specs.declared.Diagnostic.{Diagnostic}
 use Rattle.rules.specs.Base.{over}

@@ -4,8 +4,7 @@
 use Prim.Native.Nat.{ℕ, zero, suc, _+_, _≤_, _<_, min}
 use mathlib.Core.Path.{_≡_}
 use mathlib.Core.Logic.{_⊎_, _↔_}
-use mathlib.Core.Bool.{Bool, true, false}
-use mathlib.Core.List.{List, [], _∷_}
+use mathlib.Core.List.{List, _∷_}
 use lib.Dec.{T}
 use lib.ListN.{length, getD, take}
 use Rattle.rules.specs.declared.Step.the-variants.{Next}
@@ -15,7 +14,7 @@ use Rattle.rules.specs.Count.{count, place}
 use Rattle.rules.specs.Names.{Words, empty, _∋_, nameRustString}
 use Rattle.rules.specs.View.{Ident, RustBox, RustVec, Ref, Ptr, Str, SliceRef, Array, Fn, Void, kind, rowName, inner, Struct, RustType, TypeAlias, items, itemKind, itemName, itemIs, fieldCount, field}
 use Rattle.rules.specs.declared.Answer.{Answer}
-use Rattle.rules.specs.Answer.{Outcome, nameSet, readWith, call}
+use Rattle.rules.specs.Answer.{nameSet, readWith, call}
 use Rattle.rules.specs.Report.{report}
 
 -- a list has an entry that

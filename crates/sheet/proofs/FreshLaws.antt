@@ -16,7 +16,7 @@ use borrow.Author.Tests.{eqb-true, eq-eqb, ne-eqb}
 use Rattle.rules.specs.declared.Step.{Step}
 use Rattle.rules.specs.declared.Step.the-variants.{Next, Refused}
 use Rattle.rules.specs.Format.{check, after, pairAt, offset, sameBytes, equalRows, fresh, rowAt, row}
-use Rattle.sheet.specs.Keys.{mix, key, rowKey, Held, Kept, Sought, TwoKeys, placed}
+use Rattle.sheet.specs.Keys.{mix, key, rowKey, Held, Kept, Sought, placed}
 
 module _ (s : List ℕ) (at : ℕ) where
   pub byte-none : length s ≤ at → 0 ≡ getD s at 0

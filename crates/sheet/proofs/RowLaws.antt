@@ -6,7 +6,7 @@ use mathlib.Core.List.{List}
 use mathlib.Core.Logic.{_⊎_, inl, inr}
 use native.Mathlib.Omega.{arith}
 use Rattle.rules.specs.declared.Step.{Step}
-use Rattle.rules.specs.declared.Step.the-variants.{Next, Refused}
+use Rattle.rules.specs.declared.Step.the-variants.{Next}
 use Rattle.rules.specs.Format.{limited, flagged, rowKinds, bodyOf}
 
 module _ (s : List ℕ) (r at : ℕ) where

@@ -1,7 +1,6 @@
 -- `errors::codes::place_of` meets its contract: each arm is a clause of `placeOf`. Assumes nothing.
 use mathlib.Core.Path.{_≡_, refl, sym, ap}
 use Prim.Native.Nat.{ℕ, zero, suc}
-use Rattle.rules.specs.declared.Place.{Place}
 use Rattle.rules.specs.declared.Place.the-variants.{L}
 use Rattle.errors.specs.Codes.{placeOf}
 use Rattle.errors.proofs.codes.place_of.Statement.{statement}
