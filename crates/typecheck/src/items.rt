@@ -4,7 +4,7 @@ ghost use mathlib.Core.List.{List};
 ghost use Prim.Native.Nat.{ℕ, _<_};
 ghost use lib.ListN.{length, getD};
 ghost use lib.Dec.{leb};
-ghost use mathlib.Core.Bool.{not, _&&_};
+ghost use mathlib.Core.Bool.{_&&_};
 ghost use Rattle.rules.specs.declared.Place.the-variants.{I, D};
 ghost use Rattle.rules.specs.Base.{over};
 ghost use Rattle.rules.specs.Diagnostics.{say, tell, when};

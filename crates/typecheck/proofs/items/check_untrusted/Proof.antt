@@ -1,9 +1,7 @@
 -- `typecheck::items::check_untrusted` meets its contract: inside the table the item does not depend on the value past its end. Assumes nothing.
 use borrow.Author.Needs.{needs}
 use Prim.Native.Nat.{_<_}
-use mathlib.Core.Path.{_≡_, _∙_}
-use native.Mathlib.Omega.{arith}
-use lib.ListN.{getD}
+use mathlib.Core.Path.{_∙_}
 use Rattle.errors.specs.Sink.{meant-if}
 use Rattle.typecheck.proofs.Below.{getD-any}
 use Rattle.typecheck.proofs.items.check_untrusted.Statement.{statement}
