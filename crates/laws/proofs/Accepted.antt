@@ -6,11 +6,10 @@ pub mod Sheet
 pub mod Rows
 pub mod Items
 use Prim.Native.Nat.{ℕ, _<_}
-use mathlib.Core.Path.{_≡_, refl, sym, subst}
+use mathlib.Core.Path.{_≡_, refl}
 use mathlib.Core.List.{List}
 use mathlib.Core.Logic.{_⊎_, inl, inr}
-use mathlib.Core.Bool.{Bool, true, false}
-use lib.Dec.{T, leb}
+use lib.Dec.{leb}
 use Rattle.rules.specs.declared.Step.the-variants.{Next}
 use Rattle.rules.specs.Format.{check, read, Accepted}
 use Rattle.rules.specs.View.{Ref, Ptr, Array, rows, kind, inner, isType}

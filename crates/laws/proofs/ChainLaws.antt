@@ -1,11 +1,8 @@
--- Items, fields and chains.
-use mathlib.Core.Path.{_≡_}
-use mathlib.Core.Logic.{_≢_}
-use mathlib.Core.Bool.{Bool}
-use Prim.Native.Nat.{ℕ, suc, _≤_, _<_}
-use lib.Dec.{T}
+-- Two chains joined.
+-- Assumes nothing.
+use Prim.Native.Nat.{ℕ}
 use Rattle.rules.specs.Graph.{Graph}
-use Rattle.laws.proofs.Chains.{Good, Edge, Chain, edge, link}
+use Rattle.laws.proofs.Chains.{Edge, Chain, edge, link}
 
 pub snoc : {G : Graph} {i j k : ℕ} → Chain G i j → Edge G j k → Chain G i k
 snoc (edge e) d = link e (edge d)

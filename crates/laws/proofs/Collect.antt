@@ -5,16 +5,16 @@ pub mod Shown
 pub mod Skip
 pub mod Reach
 use Prim.Native.Nat.{ℕ, zero, suc, _≤_, _<_}
-use mathlib.Core.Path.{_≡_, refl, sym, ap, _∙_}
+use mathlib.Core.Path.{_≡_, refl, ap, _∙_}
 use mathlib.Core.Logic.{_⊎_, inl, inr, _↔_}
-use mathlib.Core.List.{List, [], _∷_, foldl}
+use mathlib.Core.List.{List, foldl}
 use native.Mathlib.Omega.{arith}
 use lib.ListN.{length, getD}
 use Rattle.rules.specs.Format.{Accepted}
 use Rattle.rules.specs.Count.{count}
 use Rattle.rules.specs.View.{rows, items, shown}
 use Rattle.rules.specs.Collect.{visit, shownBy, collectedTo}
-use Rattle.rules.specs.Types.{Types, typesOf}
+use Rattle.rules.specs.Types.{typesOf}
 use Rattle.laws.specs.Reach.{In, Reaches, here, on, Reached}
 use Rattle.laws.specs.Skip.{skipVisit, skipTo}
 use Rattle.laws.proofs.Counts.{Eq?, same, other, eq?, count-get}
@@ -61,7 +61,8 @@ module _ (s : List ℕ) (acc : Accepted s) where
   pub collected-once : (k x : ℕ) → count x (collectedTo s k) ≤ 1
   unfolding collectedTo
   collected-once zero = λ x. omega arith
-  collected-once (suc k) = fold-keeps (visit s (rows s)) (λ a. (x : ℕ) → count x a ≤ 1) (shownBy s k) (collectedTo s k) (collected-once k) (λ a r _ h. visit-once s (rows s) r a h)
+  collected-once (suc k) =
+      fold-keeps (visit s (rows s)) (λ a. (x : ℕ) → count x a ≤ 1) (shownBy s k) (collectedTo s k) (collected-once k) (λ a r _ h. visit-once s (rows s) r a h)
 
   -- ## Exactly what the items reach
 

@@ -1,14 +1,15 @@
 -- How often a number stands in a list, where it first stands, and what a store does to the count.
+-- Assumes nothing.
 use mathlib.Core.Path.{_≡_, refl, sym, ap, _∙_, subst}
-use mathlib.Core.Logic.{_≢_, _⊎_, inl, inr}
+use mathlib.Core.Logic.{_≢_}
 use mathlib.Core.Bool.{Bool, true, false, not}
 use mathlib.Core.List.{List, [], _∷_, _++_}
-use Prim.Native.Nat.{ℕ, zero, suc, pred, _+_, _-_, _≤_, _<_}
+use Prim.Native.Nat.{ℕ, zero, suc, _+_, _≤_, _<_}
 use native.Mathlib.Omega.{arith}
-use lib.Dec.{T, eqb, eqb→eq, eqb-refl, eqb·zero-suc, eqb·suc-zero, eqb·suc-suc}
+use lib.Dec.{T, eqb, eqb→eq, eqb-refl}
 use lib.ListN.{length, getD, set, replicate}
 use Rattle.rules.specs.Diagnostics.{bit}
-use Rattle.rules.specs.Count.{count, pick, place}
+use Rattle.rules.specs.Count.{count, place}
 
 -- the test, decided, with its equation
 pub data Eq? (x y : ℕ) : Type 0 where

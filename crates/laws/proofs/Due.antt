@@ -1,42 +1,48 @@
 -- Rule 3 and the tier rule, of each call that is answered accepted.
 -- Assumes nothing.
-use Prim.Native.Nat.{ℕ, _<_}
-use mathlib.Core.Path.{_≡_, refl, sym, ap, _∙_, subst}
+use Prim.Native.Nat.{ℕ}
+use mathlib.Core.Path.{_≡_, ap, _∙_}
+use mathlib.Core.Logic.{_↔_}
 use mathlib.Core.List.{List}
-use lib.ListN.{length, take, replicate}
-use lib.Seq.{sets}
+use lib.ListN.{length}
 use Rattle.rules.specs.declared.Step.{Step}
 use Rattle.rules.specs.declared.Step.the-variants.{Next, Refused}
 use Rattle.rules.specs.declared.Diagnostic.{Diagnostic}
-use Rattle.rules.specs.View.{items}
-use Rattle.rules.specs.Count.{count, place}
+use Rattle.rules.specs.Count.{count}
 use Rattle.rules.specs.Types.{typesOf}
-use Rattle.rules.specs.Walk.{sortOut}
-use Rattle.rules.specs.Order.{graphOf, walkOf}
+use Rattle.rules.specs.Order.{walkOf}
 use Rattle.rules.specs.Improper.{improperOf}
 use Rattle.rules.specs.declared.Answer.{Answer}
 use Rattle.rules.specs.Answer.{Outcome, places, accepted, refused, setsOf, readWith, filled, cleared, call}
 use Rattle.rules.specs.Report.{report, reportOf}
-use Rattle.rules.specs.Rule3.{OrderRule, ImproperRule, Rule3, Tiers3, structsTo, Due}
+use Rattle.rules.specs.Rule3.{Some, Cycle, OrderRule, ImproperRule, Rule3, Tiers3, Due}
 use Rattle.laws.proofs.LastItems.{Fits}
 use Rattle.laws.proofs.Accepted.{fits, accepted-is}
 use Rattle.laws.proofs.Rule3Order.{order-is, once-is, none-is, after-is, tiers-are}
-use Rattle.laws.proofs.Rule3Cyclic.{cyclic-is}
+use Rattle.laws.proofs.Rule3Cyclic.{walk-cyclic-is, cyclic-is}
 use Rattle.laws.proofs.Rule3Improper.{improper-is}
 
 module _ (s : List ℕ) (sound : Fits s) where
   unfoldable pub answered : Answer
   answered = accepted s (typesOf s) (walkOf s (typesOf s)) (reportOf s (typesOf s) (walkOf s (typesOf s)))
 
-  pub order-rule : OrderRule s (places (walkOf s (typesOf s) .sorted)) (report s)
+  -- of any report that has message 2 exactly where some chain leads back to its start
+  order-by : (ds : List Diagnostic) → Some (λ (d : Diagnostic). d .message ≡ 2) ds ↔ Cycle s → OrderRule s (places (walkOf s (typesOf s) .sorted)) ds
   unfolding walkOf
-  order-rule =
+  order-by ds cyclic =
       record {
         once = λ i si. ap (count i) (order-is s sound) ∙ once-is s sound i si;
         none-else = λ i ns. ap (count i) (order-is s sound) ∙ none-is s sound i ns;
         after = rw (order-is s sound) (after-is s sound);
-        cyclic = cyclic-is s sound;
+        cyclic = cyclic;
       }
+
+  pub order-rule : OrderRule s (places (walkOf s (typesOf s) .sorted)) (report s)
+  order-rule = order-by (report s) (cyclic-is s sound)
+
+  -- with the walk's own messages for the report
+  pub walk-rule : OrderRule s (places (walkOf s (typesOf s) .sorted)) (walkOf s (typesOf s) .errors)
+  walk-rule = order-by (walkOf s (typesOf s) .errors) (walk-cyclic-is s sound)
 
   pub improper-rule : ImproperRule s (improperOf s (typesOf s))
   improper-rule = record { improper = improper-is s sound }

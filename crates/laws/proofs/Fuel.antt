@@ -3,7 +3,6 @@
 -- Assumes nothing.
 use Prim.Native.Nat.{ℕ, zero, suc, _≤_, _<_}
 use mathlib.Core.Path.{_≡_, refl, sym, ap, _∙_}
-use mathlib.Core.Logic.{_⊎_, inl, inr}
 use mathlib.Core.Bool.{Bool, true, false, not, _||_}
 use mathlib.Core.List.{List, [], _∷_, _++_}
 use native.Mathlib.Omega.{arith}
@@ -68,7 +67,8 @@ module _ (s : List ℕ) (t : Types) where
 module _ (s : List ℕ) (acc : Accepted s) (t : Types) where
   -- ## `is_unsized`
 
-  unsized-in : (p q : ℕ → Bool) (r : ℕ) → r < rows s → ((x : ℕ) → x < r → p x ≡ q x) → unsizedBy s t (is s Array r) (p (inner s r)) r ≡ unsizedBy s t (is s Array r) (q (inner s r)) r
+  unsized-in : (p q : ℕ → Bool) (r : ℕ) → r < rows s → ((x : ℕ) → x < r → p x ≡ q x)
+      → unsizedBy s t (is s Array r) (p (inner s r)) r ≡ unsizedBy s t (is s Array r) (q (inner s r)) r
   unfolding is
   unsized-in p q r l h = go (eqb (kind s r) Array) refl
     where
@@ -116,7 +116,9 @@ module _ (s : List ℕ) (acc : Accepted s) (t : Types) where
   -- ## `FindLifetimeMut`
 
   mut-in : (p q : ℕ → Bool) (r : ℕ) → r < rows s → ((x : ℕ) → x < r → p x ≡ q x) → mutBy s t p r ≡ mutBy s t q r
-  mut-in p q r l h = ap (λ (b : Bool). elim (is-lifetime-mut s t r) as (λ _. Bool) [ true ↦ true | false ↦ b ]) (any-same p q (shown s r) (λ x i. h x (shown-falls s acc r l x i)))
+  mut-in p q r l h =
+      ap (λ (b : Bool). elim (is-lifetime-mut s t r) as (λ _. Bool) [ true ↦ true | false ↦ b ])
+      (any-same p q (shown s r) (λ x i. h x (shown-falls s acc r l x i)))
 
   pub mut-fuel : (f g r : ℕ) → r < f → r < g → r < rows s → find-lifetime-mut s t f r ≡ find-lifetime-mut s t g r
   unfolding find-lifetime-mut
@@ -135,7 +137,8 @@ module _ (s : List ℕ) (acc : Accepted s) (t : Types) where
   table-length (suc n) = length-append (mutTable s t n) (mutEntry s t (mutTable s t n) n ∷ []) ∙ omega (arith, table-length n)
 
   -- an entry that is made from a table whose entries are right is right
-  pub entry-is : (table : List Bool) (r : ℕ) → r < rows s → ((x : ℕ) → x < r → getD table x false ≡ find-lifetime-mut s t (rows s) x) → mutEntry s t table r ≡ find-lifetime-mut s t (rows s) r
+  pub entry-is : (table : List Bool) (r : ℕ) → r < rows s → ((x : ℕ) → x < r → getD table x false ≡ find-lifetime-mut s t (rows s) x)
+      → mutEntry s t table r ≡ find-lifetime-mut s t (rows s) r
   unfolding mutEntry
   entry-is table r l h = mut-in (λ x. getD table x false) (find-lifetime-mut s t (rows s)) r l h ∙ sym (mut-is r l)
 
@@ -147,7 +150,8 @@ module _ (s : List ℕ) (acc : Accepted s) (t : Types) where
       table : List Bool
       table = mutTable s t n
 
-      go : Eq? r n → ((x : ℕ) → x < n → getD table x false ≡ find-lifetime-mut s t (rows s) x) → getD (table ++ mutEntry s t table n ∷ []) r false ≡ find-lifetime-mut s t (rows s) r
+      go : Eq? r n → ((x : ℕ) → x < n → getD table x false ≡ find-lifetime-mut s t (rows s) x)
+          → getD (table ++ mutEntry s t table n ∷ []) r false ≡ find-lifetime-mut s t (rows s) r
       go (same _ e) ih = rw e (getD-at table (mutEntry s t table n) [] false n (table-length n) ∙ entry-is table n m ih)
       go (other _ e) ih = List·getD-append table (mutEntry s t table n ∷ []) false r (omega (arith, table-length n)) ∙ ih r (omega arith)
 

@@ -1,8 +1,9 @@
--- The search for improper structs as improper.rs has it, pass after pass until one finds none, over any kind of set of names; and what it finds, over chains.
-use mathlib.Core.Path.{_≡_, refl, sym, ap, _∙_, subst}
+-- The search for improper structs, pass after pass until one finds none, over any kind of set of names, finds exactly the names with an improper chain.
+-- Assumes nothing.
+use mathlib.Core.Path.{_≡_, refl, sym, _∙_, subst}
 use mathlib.Core.Logic.{_≢_, _⊎_, inl, inr, _↔_}
-use mathlib.Core.Bool.{Bool, true, false, not, _||_}
-use Prim.Native.Nat.{ℕ, zero, suc, _+_, _≤_, _<_}
+use mathlib.Core.Bool.{Bool, true, false, _||_}
+use Prim.Native.Nat.{ℕ, zero, suc, _≤_, _<_}
 use native.Mathlib.Omega.{arith}
 use lib.Dec.{T, eqb}
 use Rattle.laws.proofs.Counts.{Eq?, same, other, eq?, eqb-same, free, free-one, free-le}
@@ -43,7 +44,8 @@ module _ (S : Type 0) (has : S → ℕ → Bool) (add : S → ℕ → S) (g : Lo
     found-at s i zero t = absurd t
     found-at s i (suc k) t = go (or-cases (found s i k) (hits s (g .look i k)) t) (found-at s i k)
       where
-        go : T (found s i k) ⊎ T (hits s (g .look i k)) → (T (found s i k) → (x : ℕ) × (x < k) × T (hits s (g .look i x))) → (x : ℕ) × (x < suc k) × T (hits s (g .look i x))
+        go : T (found s i k) ⊎ T (hits s (g .look i k)) → (T (found s i k) → (x : ℕ) × (x < k) × T (hits s (g .look i x)))
+            → (x : ℕ) × (x < suc k) × T (hits s (g .look i x))
         go (inl u) ih = let r = ih u in let l : r .0 < k = r .1 in (r .0, omega arith, r .2)
         go (inr u) ih = (k, omega arith, u)
 
@@ -69,7 +71,14 @@ module _ (S : Type 0) (has : S → ℕ → Bool) (add : S → ℕ → S) (g : Lo
     looked s i o l = go (has s i) (found s i (g .fields i)) refl refl
       where
         nothing : (b : Bool) → b ≡ false → Looked s s b
-        nothing b e = record { sound = λ q. q; less = omega arith; fewer = λ e′. let z : _≡_ {A = Bool} true false = cc in let w : _≡_ {A = ℕ} 0 1 = cc in absurd (omega arith); idle = λ _. refl; okay = o }
+        nothing b e =
+            record {
+              sound = λ q. q;
+              less = omega arith;
+              fewer = λ e′. let z : _≡_ {A = Bool} true false = cc in let w : _≡_ {A = ℕ} 0 1 = cc in absurd (omega arith);
+              idle = λ _. refl;
+              okay = o;
+            }
 
         of-look : (x : ℕ) → x < g .fields i → (u : Look) → g .look i x ≡ u → T (hits s u) → Sound s → Improper g i
         of-look x m fine e t q = absurd t
@@ -94,17 +103,40 @@ module _ (S : Type 0) (has : S → ℕ → Bool) (add : S → ℕ → S) (g : Lo
         go true h e e′ = nothing false refl
         go false true e e′ =
             let q : suc (free n (has (add s i))) ≡ free n (has s) = free-one n i (has s) (has (add s i)) has-other e (rw (has-add s i i o l, eqb-same i)) l in
-            record { sound = λ q′ x. at-sound e′ q′ x (eq? x i); less = omega arith; fewer = λ _. omega arith; idle = λ b. let w : _≡_ {A = ℕ} 0 1 = cc in absurd (omega arith); okay = ok-add s i o l }
+            record {
+              sound = λ q′ x. at-sound e′ q′ x (eq? x i);
+              less = omega arith;
+              fewer = λ _. omega arith;
+              idle = λ b. let w : _≡_ {A = ℕ} 0 1 = cc in absurd (omega arith);
+              okay = ok-add s i o l;
+            }
         go false false e e′ = nothing false refl
 
     pub passed : (k : ℕ) → k ≤ n → (s : S) → ok s → Looked s (passTo k s .0) (passTo k s .1)
     unfolding I.passTo
-    passed zero l s o = record { sound = λ q. q; less = omega arith; fewer = λ b. let w : _≡_ {A = ℕ} 0 1 = cc in absurd (omega arith); idle = λ _. refl; okay = o }
-    passed (suc k) l s o = let p = passed k (omega arith) s o in join (passTo k s .0) (look (passTo k s .0) k .0) (passTo k s .1) (look (passTo k s .0) k .1) p (looked (passTo k s .0) k (p .okay) l)
+    passed zero l s o =
+        record { sound = λ q. q; less = omega arith; fewer = λ b. let w : _≡_ {A = ℕ} 0 1 = cc in absurd (omega arith); idle = λ _. refl; okay = o }
+    passed (suc k) l s o =
+        let p = passed k (omega arith) s o in
+        join (passTo k s .0) (look (passTo k s .0) k .0) (passTo k s .1) (look (passTo k s .0) k .1) p (looked (passTo k s .0) k (p .okay) l)
       where
         join : (t u : S) (b c : Bool) → Looked s t b → Looked t u c → Looked s u (b || c)
-        join t u true c p q = record { sound = λ h. q .sound (p .sound h); less = omega (arith, p .less, q .less); fewer = λ _. omega (arith, p .fewer refl, q .less); idle = λ b. let w : _≡_ {A = ℕ} 0 1 = cc in absurd (omega arith); okay = q .okay }
-        join t u false c p q = record { sound = λ h. q .sound (p .sound h); less = omega (arith, p .less, q .less); fewer = λ e. omega (arith, p .less, q .fewer e); idle = λ e. q .idle e ∙ p .idle refl; okay = q .okay }
+        join t u true c p q =
+            record {
+              sound = λ h. q .sound (p .sound h);
+              less = omega (arith, p .less, q .less);
+              fewer = λ _. omega (arith, p .fewer refl, q .less);
+              idle = λ b. let w : _≡_ {A = ℕ} 0 1 = cc in absurd (omega arith);
+              okay = q .okay;
+            }
+        join t u false c p q =
+            record {
+              sound = λ h. q .sound (p .sound h);
+              less = omega (arith, p .less, q .less);
+              fewer = λ e. omega (arith, p .less, q .fewer e);
+              idle = λ e. q .idle e ∙ p .idle refl;
+              okay = q .okay;
+            }
 
     -- nothing is left to find
     Closed : S → Type 0
@@ -120,10 +152,12 @@ module _ (S : Type 0) (has : S → ℕ → Bool) (add : S → ℕ → S) (g : Lo
         last false true _ _ b0 e0 = let w : _≡_ {A = ℕ} 0 1 = cc in absurd (omega arith)
         last false false _ _ b0 e0 = refl
 
-        go : (t : S) (b : Bool) → Looked s t b → (b ≡ false → (y : ℕ) → y < k → has s y ≡ false → (found s y (g .fields y)) ≡ false) → (b || look t k .1) ≡ false → Eq? x k → (found s x (g .fields x)) ≡ false
+        go : (t : S) (b : Bool) → Looked s t b → (b ≡ false → (y : ℕ) → y < k → has s y ≡ false → (found s y (g .fields y)) ≡ false)
+            → (b || look t k .1) ≡ false → Eq? x k → (found s x (g .fields x)) ≡ false
         go t true p ih e′ _ = let w : _≡_ {A = ℕ} 0 1 = cc in absurd (omega arith)
         go t false p ih e′ (other _ q) = ih refl x (omega arith) h
-        go t false p ih e′ (same _ q) = rw q (last (has s k) (found s k (g .fields k)) refl refl (subst (λ (y : ℕ). has s y ≡ false) q h) (subst (λ (u : S). look u k .1 ≡ false) (p .idle refl) e′))
+        go t false p ih e′ (same _ q) =
+            rw q (last (has s k) (found s k (g .fields k)) refl refl (subst (λ (y : ℕ). has s y ≡ false) q h) (subst (λ (u : S). look u k .1 ≡ false) (p .idle refl) e′))
 
     complete : (closed : (i j k : ℕ) → k < g .fields i → g .look i k ≡ to j → j < n) (s : S) → Closed s → {x : ℕ} → Improper g x → x < n → T (has s x)
     unfolding Closed
@@ -149,12 +183,14 @@ module _ (S : Type 0) (has : S → ℕ → Bool) (add : S → ℕ → S) (g : Lo
         End : S → Type 0
         End t = Sound t × Closed t
 
-        go : (b : Bool) → passTo n s .1 ≡ b → (free n (has (passTo n s .0)) < f → End (search f (passTo n s .0))) → End (elim b as (λ _. S) [ true ↦ search f (passTo n s .0) | false ↦ passTo n s .0 ])
+        go : (b : Bool) → passTo n s .1 ≡ b → (free n (has (passTo n s .0)) < f → End (search f (passTo n s .0)))
+            → End (elim b as (λ _. S) [ true ↦ search f (passTo n s .0) | false ↦ passTo n s .0 ])
         go true e ih = ih (omega (arith, p .fewer e))
         go false e ih = (p .sound q, subst Closed (sym (p .idle e)) (quiet n (omega arith) s o e))
 
     -- T4: the search marks the items from which a chain reaches a bad one, and no others
-    pub improper-found : (closed : (i j k : ℕ) → k < g .fields i → g .look i k ≡ to j → j < n) (empty : S) → ok empty → ((x : ℕ) → has empty x ≡ false) → (x : ℕ) → x < n → T (has (search (suc n) empty) x) ↔ Improper g x
+    pub improper-found : (closed : (i j k : ℕ) → k < g .fields i → g .look i k ≡ to j → j < n) (empty : S) → ok empty → ((x : ℕ) → has empty x ≡ false)
+        → (x : ℕ) → x < n → T (has (search (suc n) empty) x) ↔ Improper g x
     unfolding Sound
     improper-found closed empty o e x l =
         let r = searched (suc n) empty o (omega (arith, free-le n (has empty))) (λ y t. absurd (subst T (e y) t)) in

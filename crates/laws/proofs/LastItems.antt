@@ -1,19 +1,19 @@
 -- The tables of last items, and the fields that lead to struct items: what is computed is what the words of rule 3 say.
 -- Assumes nothing.
-use Prim.Native.Nat.{ℕ, zero, suc, _+_, _≤_, _<_}
+use Prim.Native.Nat.{ℕ, zero, suc, _≤_, _<_}
 use mathlib.Core.Path.{_≡_, refl, sym, ap, _∙_, subst}
 use mathlib.Core.Logic.{_≢_, _↔_, _⊎_}
 use mathlib.Core.Bool.{Bool, true, false, _&&_, _||_}
 use mathlib.Core.List.{List}
 use native.Mathlib.Omega.{arith}
 use lib.Dec.{T, eqb, ltb, leb, ltb→lt, lt→ltb, eqb→eq, eqb-refl}
-use lib.ListN.{length, getD, set, replicate, length-set, length-replicate, getD-replicate, List·getD-eq-default}
+use lib.ListN.{length, getD, set, length-set, length-replicate, getD-replicate, List·getD-eq-default}
 use lib.Seq.{getD-set-same, getD-set-other}
 use native.Mathlib.Decide.{decLt}
 use Rattle.rules.specs.Base.{if_then_else_}
 use Rattle.rules.specs.View.{Ident, Ref, Ptr, Array, is, kind, rowName, rows, inner, Struct, isType, items, itemKind, itemIs, itemName, fieldCount, field}
 use Rattle.rules.specs.Collect.{none, lastTo, entersStructs}
-use Rattle.rules.specs.Types.{Types, typesOf, structOf}
+use Rattle.rules.specs.Types.{typesOf, structOf}
 use Rattle.rules.specs.Graph.{Graph}
 use Rattle.laws.proofs.Chains.{Good, Edge}
 use Rattle.rules.specs.Order.{leadsTo, graphOf}
@@ -47,7 +47,8 @@ module _ (s : List ℕ) (p : ℕ → Bool) where
   length-last zero = length-replicate {A = ℕ} 256 255
   length-last (suc k) = go (p k) (length-last k)
     where
-      go : (b : Bool) → length (lastTo s p k) ≡ 256 → length {A = ℕ} (elim b as (λ _. List ℕ) [ true ↦ set (lastTo s p k) (itemName s k) k | false ↦ lastTo s p k ]) ≡ 256
+      go : (b : Bool) → length (lastTo s p k) ≡ 256
+          → length {A = ℕ} (elim b as (λ _. List ℕ) [ true ↦ set (lastTo s p k) (itemName s k) k | false ↦ lastTo s p k ]) ≡ 256
       go true h = length-set (lastTo s p k) (itemName s k) k ∙ h
       go false h = h
 
@@ -71,9 +72,11 @@ module _ (s : List ℕ) (p : ℕ → Bool) where
       t : List ℕ
       t = lastTo s p k
 
-      go : (b : Bool) → p k ≡ b → Eq? n (itemName s k) → Last s p k n (getD t n 255) → Last s p (suc k) n (getD (elim b as (λ _. List ℕ) [ true ↦ set t (itemName s k) k | false ↦ t ]) n 255)
+      go : (b : Bool) → p k ≡ b → Eq? n (itemName s k) → Last s p k n (getD t n 255)
+          → Last s p (suc k) n (getD (elim b as (λ _. List ℕ) [ true ↦ set t (itemName s k) k | false ↦ t ]) n 255)
       go true e (same _ q) ih =
-          let w : getD (set t (itemName s k) k) n 255 ≡ k = ap (λ x. getD (set t (itemName s k) k) x 255) q ∙ getD-set-same t (itemName s k) k 255 (omega (arith, length-last k)) in
+          let w : getD (set t (itemName s k) k) n 255 ≡ k =
+          ap (λ x. getD (set t (itemName s k) k) x 255) q ∙ getD-set-same t (itemName s k) k 255 (omega (arith, length-last k)) in
           subst (λ (x : ℕ). Last s p (suc k) n x) (sym w) (last {r = k} (omega arith) (subst T (sym e) tt) (sym q) (λ j m _ _. omega arith))
       go true e (other _ q) ih = subst (λ (x : ℕ). Last s p (suc k) n x) (sym (getD-set-other t (itemName s k) n k 255 q)) (widen k n (λ _ d. q (sym d)) ih)
       go false e q ih = widen k n (λ u. absurd (subst T e u)) ih
@@ -125,7 +128,8 @@ module _ (s : List ℕ) where
       go : (r : ℕ) → r ≡ i → Last s (entersStructs s) (items s) n r → LastStruct s n i
       go r q (no-one f) = absurd (ne (sym q))
       go r q (last l t b f) =
-          subst (λ (x : ℕ). LastStruct s n x) q (record { struct = record { below = l; is-struct = enters r t }; bears = b; last = λ j h d. f j (h .below) (enters-struct j (h .is-struct)) d })
+          subst (λ (x : ℕ). LastStruct s n x) q
+          (record { struct = record { below = l; is-struct = enters r t }; bears = b; last = λ j h d. f j (h .below) (enters-struct j (h .is-struct)) d })
 
   pub last-of : Fits s → (n i : ℕ) → LastStruct s n i → structOf (typesOf s) n ≡ i
   last-of fits n i h = go (structOf (typesOf s) n) refl (struct-of n (subst (λ (x : ℕ). x < 256) (h .bears) (struct-named s fits i (h .struct))))
@@ -144,7 +148,14 @@ module _ (s : List ℕ) where
   edge-holds i j si e = go (is s Ident (field s i (e .place))) refl (e .leads)
     where
       go : (b : Bool) → is s Ident (field s i (e .place)) ≡ b → (if b then structOf (typesOf s) (rowName s (field s i (e .place))) else none) ≡ j → Holds s i j
-      go true p q = record { holder = si; number = e .place; is-field = e .is-field; plain = eqb-true (kind s (field s i (e .place))) 0 p; leads = of-last (rowName s (field s i (e .place))) j q (e .is-item) }
+      go true p q =
+          record {
+            holder = si;
+            number = e .place;
+            is-field = e .is-field;
+            plain = eqb-true (kind s (field s i (e .place))) 0 p;
+            leads = of-last (rowName s (field s i (e .place))) j q (e .is-item);
+          }
       go false p q = absurd (e .is-item (sym q))
 
   pub holds-edge : Fits s → (i j : ℕ) → Holds s i j → Edge (graphOf s (typesOf s)) i j
@@ -176,7 +187,12 @@ module _ (s : List ℕ) where
 
   -- over the items of the sheet, and over all items that a sheet can have
   pub good-for : Fits s → (n : ℕ) → items s ≤ n → n ≤ 255 → Good (graphOf s (typesOf s)) n
-  good-for fits n least few = record { few = few; below = λ x t. omega (arith, struct-is x .0 t .below); closed = λ i k l ne. struct-is (leadsTo s (typesOf s) i k) .1 (leads-struct i k ne) }
+  good-for fits n least few =
+      record {
+        few = few;
+        below = λ x t. omega (arith, struct-is x .0 t .below);
+        closed = λ i k l ne. struct-is (leadsTo s (typesOf s) i k) .1 (leads-struct i k ne);
+      }
 
   pub good : Fits s → Good (graphOf s (typesOf s)) 255
   good fits = good-for fits 255 (fits .few) (omega arith)

@@ -1,28 +1,39 @@
-pub mod Chains
+-- lists, tests and sums
 pub mod Counts
 pub mod Tests
 pub mod Sums
 pub mod Members
+pub mod Lists
+pub mod Forms
+-- graphs, the walk over them, and tiers
+pub mod Chains
 pub mod ChainLaws
 pub mod WalkInvariant
 pub mod WalkOrder
 pub mod WalkFuel
 pub mod WalkCalls
 pub mod LongestChain
-pub mod Lists
 pub mod TierTable
 pub mod TierPass
 pub mod TierRule
+-- sets of names
 pub mod ImproperSearch
 pub mod NameSets
 pub mod Sets
-pub mod LastItems
-pub mod Rule3Order
-pub mod Rule3Cyclic
 pub mod SetMembers
-pub mod Rule3Improper
+-- sheets
+pub mod LastItems
 pub mod Accepted
 pub mod Collect
-pub mod Bounds
 pub mod Fuel
+-- the report
+pub mod Messages
+pub mod Tells
+pub mod SmallReport
+pub mod Bounds
+pub mod Book
+-- rule 3
+pub mod Rule3Order
+pub mod Rule3Cyclic
+pub mod Rule3Improper
 pub mod Due

@@ -1,11 +1,11 @@
 -- A list of one entry for each number below n: its length, and entry x of it. Entry x of a table of 255 places.
 -- Assumes nothing.
-use mathlib.Core.Path.{_≡_, refl, sym, ap, _∙_, subst}
+use mathlib.Core.Path.{_≡_, refl, sym, ap, _∙_}
 use mathlib.Core.List.{List, [], _∷_, _++_}
 use Prim.Native.Nat.{ℕ, zero, suc, _+_, _-_, _≤_, _<_}
 use native.Mathlib.Omega.{arith}
 use native.Mathlib.Decide.{decLt}
-use lib.ListN.{length, getD, take, drop, replicate, length-append, length-replicate, List·getD-append, List·getD-eq-default}
+use lib.ListN.{length, getD, drop, replicate, length-append, length-replicate, List·getD-append, List·getD-eq-default}
 use lib.Seq.{sets, sets-eq, length-sets, getD-append-seam, getD-append-add, getD-drop}
 use Rattle.rules.specs.Base.{over}
 use Rattle.rules.specs.Answer.{places}
@@ -48,7 +48,9 @@ stored-get n l h x = ap (λ (m : List ℕ). getD m x 0) (sets-eq l (replicate n 
     go (yes k) = List·getD-append l zeros 0 x k
     go (no k) =
         let e : length l + (x - length l) ≡ x = omega arith in
-        ap (λ (y : ℕ). getD (l ++ zeros) y 0) (sym e) ∙ getD-append-add l zeros (x - length l) 0 ∙ getD-drop (0 + length l) (replicate n 0) (x - length l) 0 ∙ zeros-get n (0 + length l + (x - length l)) ∙ sym (List·getD-eq-default l 0 (omega arith))
+        ap (λ (y : ℕ). getD (l ++ zeros) y 0) (sym e) ∙ getD-append-add l zeros (x - length l) 0
+        ∙ getD-drop (0 + length l) (replicate n 0) (x - length l) 0 ∙ zeros-get n (0 + length l + (x - length l))
+        ∙ sym (List·getD-eq-default l 0 (omega arith))
 
 pub places-get : (l : List ℕ) → length l ≤ 255 → (x : ℕ) → getD (places l) x 0 ≡ getD l x 0
 unfolding places

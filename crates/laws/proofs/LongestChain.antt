@@ -1,8 +1,9 @@
--- Tiers: the longest chain from an item, 255 where a chain from it never ends.
-use mathlib.Core.Path.{_≡_, refl, sym, ap, _∙_, subst}
+-- The tier of an item of any graph is the longest chain from it, and 255 where a chain from it never ends.
+-- Assumes nothing.
+use mathlib.Core.Path.{_≡_, refl, sym, _∙_, subst}
 use mathlib.Core.Logic.{_≢_, _⊎_, inl, inr, _↔_}
 use mathlib.Core.Bool.{Bool, true, false, not, _||_}
-use Prim.Native.Nat.{ℕ, zero, suc, _+_, _≤_, _<_, max, min}
+use Prim.Native.Nat.{ℕ, zero, suc, _≤_, _<_, max, min}
 use native.Mathlib.Omega.{arith}
 use native.Mathlib.Decide.{decLe}
 use lib.Dec.{T, eqb, leb, leb→le, nleb→lt}
@@ -10,7 +11,7 @@ use Rattle.laws.proofs.Counts.{Eq?, same, other, eq?, eqb-same, eqb-tru
 use Rattle.rules.specs.Graph.{Graph}
 use Rattle.laws.proofs.Chains.{Good, Edge, Chain, edge, link, Endless}
 use Rattle.laws.proofs.ChainLaws.{snoc}
-use Rattle.rules.specs.Tiers.{tops, capped, tierAt}
+use Rattle.rules.specs.Tiers.{tops, tierAt}
 
 abbrev pub Loops : Graph → ℕ → Type 0
 Loops G i = (c : ℕ) × Chain G i c × Chain G c c
@@ -70,13 +71,16 @@ module _ (h f : ℕ → ℕ) (G : Graph) (i : ℕ) where
       wide (inl e) = inl e
       wide (inr r) = let l : r .0 < k = r .1 in inr (r .0, omega arith, r .2, r .3)
 
-      go : (b : Bool) → eqb (G .to i k) 255 ≡ b → Dec (tops h f G i k ≤ h (f (G .to i k))) → At k (tops h f G i k) → At (suc k) (elim b as (λ _. ℕ) [ true ↦ tops h f G i k | false ↦ max (tops h f G i k) (h (f (G .to i k))) ])
+      go : (b : Bool) → eqb (G .to i k) 255 ≡ b → Dec (tops h f G i k ≤ h (f (G .to i k))) → At k (tops h f G i k)
+          → At (suc k) (elim b as (λ _. ℕ) [ true ↦ tops h f G i k | false ↦ max (tops h f G i k) (h (f (G .to i k))) ])
       go true e _ r = wide r
       go false e (yes l) r = inr (k, omega arith, eqb-false (G .to i k) 255 e, omega arith)
       go false e (no l) r = let z : max (tops h f G i k) (h (f (G .to i k))) ≡ tops h f G i k = omega arith in rw z (wide r)
 
   pub tops-ge : (j : ℕ) → Edge G i j → h (f j) ≤ tops h f G i (G .fields i)
-  tops-ge j e = subst (λ (x : ℕ). h (f x) ≤ tops h f G i (G .fields i)) (e .leads) (field-ge (G .fields i) (e .place) (e .is-field) (λ q. e .is-item (sym (e .leads) ∙ q)))
+  tops-ge j e =
+      subst (λ (x : ℕ). h (f x) ≤ tops h f G i (G .fields i)) (e .leads)
+      (field-ge (G .fields i) (e .place) (e .is-field) (λ q. e .is-item (sym (e .leads) ∙ q)))
 
   pub tops-at : (tops h f G i (G .fields i) ≡ 0) ⊎ ((j : ℕ) × Edge G i j × (tops h f G i (G .fields i) ≡ h (f j)))
   tops-at = go (field-at (G .fields i))
@@ -85,16 +89,19 @@ module _ (h f : ℕ → ℕ) (G : Graph) (i : ℕ) where
       go (inl e) = inl e
       go (inr r) = inr (G .to i (r .0), record { place = r .0; is-field = r .1; leads = refl; is-item = r .2 }, r .3)
 
-fields-same : (h h′ f f′ : ℕ → ℕ) (G : Graph) (i k : ℕ) → ((x : ℕ) → x < k → G .to i x ≢ 255 → h (f (G .to i x)) ≡ h′ (f′ (G .to i x))) → tops h f G i k ≡ tops h′ f′ G i k
+fields-same : (h h′ f f′ : ℕ → ℕ) (G : Graph) (i k : ℕ) → ((x : ℕ) → x < k → G .to i x ≢ 255 → h (f (G .to i x)) ≡ h′ (f′ (G .to i x)))
+    → tops h f G i k ≡ tops h′ f′ G i k
 unfolding tops
 fields-same h h′ f f′ G i zero e = refl
 fields-same h h′ f f′ G i (suc k) e = go (eqb (G .to i k) 255) refl (fields-same h h′ f f′ G i k (λ x l. e x (omega arith)))
   where
-    go : (b : Bool) → eqb (G .to i k) 255 ≡ b → tops h f G i k ≡ tops h′ f′ G i k → _≡_ {A = ℕ} (elim b as (λ _. ℕ) [ true ↦ tops h f G i k | false ↦ max (tops h f G i k) (h (f (G .to i k))) ]) (elim b as (λ _. ℕ) [ true ↦ tops h′ f′ G i k | false ↦ max (tops h′ f′ G i k) (h′ (f′ (G .to i k))) ])
+    go : (b : Bool) → eqb (G .to i k) 255 ≡ b → tops h f G i k ≡ tops h′ f′ G i k
+        → _≡_ {A = ℕ} (elim b as (λ _. ℕ) [ true ↦ tops h f G i k | false ↦ max (tops h f G i k) (h (f (G .to i k))) ]) (elim b as (λ _. ℕ) [ true ↦ tops h′ f′ G i k | false ↦ max (tops h′ f′ G i k) (h′ (f′ (G .to i k))) ])
     go true q r = r
     go false q r = rw (r, e k (omega arith) (eqb-false (G .to i k) 255 q))
 
-pub tops-same : (h h′ f f′ : ℕ → ℕ) (G : Graph) (i : ℕ) → ((j : ℕ) → Edge G i j → h (f j) ≡ h′ (f′ j)) → tops h f G i (G .fields i) ≡ tops h′ f′ G i (G .fields i)
+pub tops-same : (h h′ f f′ : ℕ → ℕ) (G : Graph) (i : ℕ) → ((j : ℕ) → Edge G i j → h (f j) ≡ h′ (f′ j))
+    → tops h f G i (G .fields i) ≡ tops h′ f′ G i (G .fields i)
 tops-same h h′ f f′ G i e = fields-same h h′ f f′ G i (G .fields i) (λ x l ne. e (G .to i x) (record { place = x; is-field = l; leads = refl; is-item = ne }))
 
 -- one item more is seen
@@ -159,7 +166,8 @@ module _ (G : Graph) where
   long-way zero i = tt
   long-way (suc k) i = go (tops-at (λ t. suc t) (λ j. long G k j) G i) (long-way k)
     where
-      go : (long G (suc k) i ≡ 0) ⊎ ((j : ℕ) × Edge G i j × (long G (suc k) i ≡ suc (long G k j))) → ((j : ℕ) → Way G (long G k j) j) → Way G (long G (suc k) i) i
+      go : (long G (suc k) i ≡ 0) ⊎ ((j : ℕ) × Edge G i j × (long G (suc k) i ≡ suc (long G k j))) → ((j : ℕ) → Way G (long G k j) j)
+          → Way G (long G (suc k) i) i
       go (inl e) ih = subst (λ (m : ℕ). Way G m i) (sym e) tt
       go (inr r) ih = subst (λ (m : ℕ). Way G m i) (sym (r .2)) (r .0, r .1, ih (r .0))
 
@@ -201,7 +209,8 @@ module _ (G : Graph) where
 
   module _ (n : ℕ) (good : Good G n) where
     closed : (i j : ℕ) → Edge G i j → j < n
-    closed i j e = subst (λ (x : ℕ). x < n) (e .leads) (good .below (G .to i (e .place)) (good .closed i (e .place) (e .is-field) (λ q. e .is-item (sym (e .leads) ∙ q))))
+    closed i j e =
+        subst (λ (x : ℕ). x < n) (e .leads) (good .below (G .to i (e .place)) (good .closed i (e .place) (e .is-field) (λ q. e .is-item (sym (e .leads) ∙ q))))
 
     -- a chain of as many edges as there are items not seen meets one twice; `p` holds what was seen on the way
     pigeon : (m x : ℕ) (p : ℕ → Bool) → x < n → free n p ≤ m → ((s : ℕ) → T (p s) → Chain G s x) → Way G m x → Loops G x

@@ -1,23 +1,23 @@
--- Sets of names 0 to 255, four words of 64 bits.
-use mathlib.Core.Path.{_≡_, refl, sym, ap, _∙_, subst}
-use mathlib.Core.Logic.{_≢_, _⊎_, inl, inr, _↔_}
-use mathlib.Core.Bool.{Bool, true, false, _||_}
-use mathlib.Core.List.{List, [], _∷_}
-use Prim.Native.Nat.{ℕ, zero, suc, _+_, _-_, _*_, _/_, _%_, _^_, _≤_, _<_, max}
+-- What a set of names contains: the empty set nothing, `add` one name more; and the search over such sets finds the improper names.
+-- Assumes nothing.
+use mathlib.Core.Path.{_≡_, refl, sym, ap, _∙_}
+use mathlib.Core.Logic.{_≢_, _↔_}
+use mathlib.Core.Bool.{true, false, _||_}
+use mathlib.Core.List.{List, []}
+use Prim.Native.Nat.{ℕ, zero, suc, _+_, _-_, _*_, _/_, _%_, _^_, _<_, max}
 use native.Mathlib.Nat.{div-eq-of-lt, zero-div}
 use native.Mathlib.Omega.{arith}
 use native.Mathlib.Decide.{decLt}
 use lib.Bits.{bitOr, or-step, or-shr}
-use lib.Pow.{pow-pos, pow-lt, pow-add, shl-shr}
+use lib.Pow.{pow-lt, pow-add, shl-shr}
 use lib.Arith.{digits-mod}
 use lib.Dec.{T, eqb}
-use lib.ListN.{length, getD, set, replicate, length-set}
+use lib.ListN.{length, getD, set, length-set}
 use lib.Seq.{getD-set-same, getD-set-other}
-use Rattle.rules.specs.Improper.{Looks, Look, to, search}
+use Rattle.rules.specs.Improper.{Looks, to, search}
 use Rattle.laws.proofs.ImproperSearch.{Improper}
 use Rattle.laws.proofs.ImproperSearch.{improper-found}
-use Rattle.rules.specs.Diagnostics.{bit}
-use Rattle.laws.proofs.Counts.{Eq?, same, other, eq?, eqb-same, eqb-true, eqb-false}
+use Rattle.laws.proofs.Counts.{Eq?, same, other, eq?}
 use Rattle.rules.specs.Names.{bitOf, empty, add, _∋_ as has}
 
 or-mod2 : (a b : ℕ) → bitOr a b % 2 ≡ max (a % 2) (b % 2)
@@ -77,9 +77,12 @@ has-add s i x l h = go (eq? (x / 64) (i / 64)) (eq? (x % 64) (i % 64)) (eq? x i)
     there p = ap (λ n. getD (set s (i / 64) w) n 0) p ∙ getD-set-same s (i / 64) w 0 fits
 
     bits : x / 64 ≡ i / 64 → bitOf (getD (set s (i / 64) w) (x / 64) 0) (x % 64) ≡ max (bitOf (getD s (x / 64) 0) (x % 64)) (bitOf (2 ^ (i % 64)) (x % 64))
-    bits p = ap (λ n. bitOf n (x % 64)) (there p) ∙ or-bit (getD s (i / 64) 0) (2 ^ (i % 64)) (x % 64) ∙ ap (λ n. max (bitOf (getD s n 0) (x % 64)) (bitOf (2 ^ (i % 64)) (x % 64))) (sym p)
+    bits p =
+        ap (λ n. bitOf n (x % 64)) (there p) ∙ or-bit (getD s (i / 64) 0) (2 ^ (i % 64)) (x % 64)
+        ∙ ap (λ n. max (bitOf (getD s n 0) (x % 64)) (bitOf (2 ^ (i % 64)) (x % 64))) (sym p)
 
-    go : Eq? (x / 64) (i / 64) → Eq? (x % 64) (i % 64) → Eq? x i → eqb (bitOf (getD (set s (i / 64) w) (x / 64) 0) (x % 64)) 1 ≡ (eqb x i || eqb (bitOf (getD s (x / 64) 0) (x % 64)) 1)
+    go : Eq? (x / 64) (i / 64) → Eq? (x % 64) (i % 64) → Eq? x i
+        → eqb (bitOf (getD (set s (i / 64) w) (x / 64) 0) (x % 64)) 1 ≡ (eqb x i || eqb (bitOf (getD s (x / 64) 0) (x % 64)) 1)
     go (same _ p) (same _ q) (same e r) =
         let one : bitOf (2 ^ (i % 64)) (x % 64) ≡ 1 = ap (λ n. bitOf (2 ^ (i % 64)) n) q ∙ pow-same (i % 64) in
         let v : bitOf (getD (set s (i / 64) w) (x / 64) 0) (x % 64) ≡ 1 = omega (arith, bits p, bit-lt (getD s (x / 64) 0) (x % 64)) in
@@ -111,5 +114,7 @@ unfolding has bitOf
 has-empty x = ap (λ w. eqb (w / 2 ^ (x % 64) % 2) 1) (empty-get (x / 64)) ∙ ap (λ n. eqb (n % 2) 1) (zero-div (2 ^ (x % 64)))
 
 -- the search over such sets finds the improper names
-pub improper-names : (g : Looks) → ((i j k : ℕ) → k < g .fields i → g .look i k ≡ to j → j < 256) → (x : ℕ) → x < 256 → T (has (search (List ℕ) has add g 256 257 empty) x) ↔ Improper g x
-improper-names g closed x l = improper-found (List ℕ) has add g 256 (λ s. length s ≡ 4) (λ s i o _. length-add s i ∙ o) (λ s i y o h. has-add s i y o h) closed empty refl has-empty x l
+pub improper-names : (g : Looks) → ((i j k : ℕ) → k < g .fields i → g .look i k ≡ to j → j < 256) → (x : ℕ) → x < 256
+    → T (has (search (List ℕ) has add g 256 257 empty) x) ↔ Improper g x
+improper-names g closed x l =
+    improper-found (List ℕ) has add g 256 (λ s. length s ≡ 4) (λ s i o _. length-add s i ∙ o) (λ s i y o h. has-add s i y o h) closed empty refl has-empty x l

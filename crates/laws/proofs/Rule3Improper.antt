@@ -8,19 +8,19 @@ use mathlib.Core.List.{List}
 use native.Mathlib.Omega.{arith}
 use native.Mathlib.Decide.{decLt}
 use lib.Dec.{T, eqb, ltb, ltb→lt, lt→ltb, eqb→eq, eqb-refl}
-use lib.ListN.{length}
 use Rattle.rules.specs.Base.{if_then_else_}
 use Rattle.rules.specs.Names.{_∋_, isAtom, nameRustString}
-use Rattle.rules.specs.View.{Ident, RustBox, RustVec, Ref, Ptr, Str, SliceRef, Array, Fn, Void, rows, kind, rowName, inner, Struct, RustType, TypeAlias, fieldCount, field}
+use Rattle.rules.specs.View.{Ident, RustBox, RustVec, Ref, Ptr, Str, SliceRef, Array, Fn, Void, rows, kind, rowName, inner, Struct, RustType, TypeAlias}
+use Rattle.rules.specs.View.{fieldCount, field}
 use Rattle.rules.specs.Collect.{none}
 use Rattle.rules.specs.Types.{Types, typesOf, structOf}
-use Rattle.rules.specs.Improper.{Look, fine, bad, to, definite, Looks, lookName, lookRow, looksFields, looksLook, looksOf, improperOf}
+use Rattle.rules.specs.Improper.{Look, fine, bad, to, definite, lookName, lookRow, looksFields, looksLook, looksOf, improperOf}
 use Rattle.laws.proofs.ImproperSearch.{Improper, here, there}
-use Rattle.rules.specs.Rule3.{IsStruct, LastStruct, Borne, Through, end, into, Bad, rust-string, box, vec, str, fn, void, slice, name, ends, goes}
+use Rattle.rules.specs.Rule3.{LastStruct, Borne, Through, end, into, Bad, rust-string, box, vec, str, fn, void, slice, name, ends, goes}
 use Rattle.rules.specs.Rule3 as R
 use Rattle.laws.proofs.Counts.{Eq?, same, other, eq?}
 use Rattle.laws.proofs.NameSets.{improper-names}
-use Rattle.laws.proofs.LastItems.{Fits, of-last, last-of, struct-named}
+use Rattle.laws.proofs.LastItems.{Fits, of-last, last-of}
 use Rattle.laws.proofs.SetMembers.{structs-are, rust-are, aliases-are, borne-small}
 use Rattle.laws.proofs.Tests.{never, is-true, is-false, or-cases, or-left, or-right, no-eq}
 
@@ -64,7 +64,8 @@ module _ (s : List ℕ) (fits : Fits s) where
 
   -- ## Looking through
 
-  skip : (a b : Bool) (x y z : Look) → b ≡ false → _≡_ {A = Look} (elim a as (λ _. Look) [ true ↦ x | false ↦ elim b as (λ _. Look) [ true ↦ y | false ↦ z ] ]) (elim a as (λ _. Look) [ true ↦ x | false ↦ z ])
+  skip : (a b : Bool) (x y z : Look) → b ≡ false
+      → _≡_ {A = Look} (elim a as (λ _. Look) [ true ↦ x | false ↦ elim b as (λ _. Look) [ true ↦ y | false ↦ z ] ]) (elim a as (λ _. Look) [ true ↦ x | false ↦ z ])
   skip true b x y z e = refl
   skip false true x y z e = never (sym e)
   skip false false x y z e = refl
@@ -95,10 +96,12 @@ module _ (s : List ℕ) (fits : Fits s) where
   through-some zero r l m = absurd (omega arith)
   through-some (suc f) r l m = by (eq? (kind s r) Ref) (eq? (kind s r) Ptr) (eq? (kind s r) Array) (through-some f (inner s r))
     where
-      on : (kind s r ≡ Ref) ⊎ ((kind s r ≡ Ptr) ⊎ (kind s r ≡ Array)) → (inner s r < f → inner s r < rows s → (q : ℕ) × Through s (inner s r) q) → (q : ℕ) × Through s r q
+      on : (kind s r ≡ Ref) ⊎ ((kind s r ≡ Ptr) ⊎ (kind s r ≡ Array)) → (inner s r < f → inner s r < rows s → (q : ℕ) × Through s (inner s r) q)
+          → (q : ℕ) × Through s r q
       on k ih = let w : inner s r < r = fits .rows-fall r m k in let h = ih (omega arith) (omega arith) in (h .0, into k (h .1))
 
-      by : Eq? (kind s r) Ref → Eq? (kind s r) Ptr → Eq? (kind s r) Array → (inner s r < f → inner s r < rows s → (q : ℕ) × Through s (inner s r) q) → (q : ℕ) × Through s r q
+      by : Eq? (kind s r) Ref → Eq? (kind s r) Ptr → Eq? (kind s r) Array → (inner s r < f → inner s r < rows s → (q : ℕ) × Through s (inner s r) q)
+          → (q : ℕ) × Through s r q
       by (same _ e) b c ih = on (inl e) ih
       by (other _ a) (same _ e) c ih = on (inr (inl e)) ih
       by (other _ a) (other _ b) (same _ e) ih = on (inr (inr e)) ih
@@ -122,7 +125,8 @@ module _ (s : List ℕ) (fits : Fits s) where
   unfolding lookName if_then_else_
   name-bad q n en k h = go (isAtom n) (t .structs ∋ n) refl refl h
     where
-      go : (a b : Bool) → isAtom n ≡ a → t .structs ∋ n ≡ b → (if a then definite (eqb n nameRustString) else if b then to n else definite (t .rust ∋ n || t .aliases ∋ n)) ≡ bad → Bad s q
+      go : (a b : Bool) → isAtom n ≡ a → t .structs ∋ n ≡ b
+          → (if a then definite (eqb n nameRustString) else if b then to n else definite (t .rust ∋ n || t .aliases ∋ n)) ≡ bad → Bad s q
       go true b ea eb e = rust-string k (en ∙ eqb→eq n nameRustString (definite-bad (eqb n nameRustString) e))
       go false true ea eb e = absurd (not-to e)
       go false false ea eb e =
@@ -137,7 +141,9 @@ module _ (s : List ℕ) (fits : Fits s) where
   unfolding lookName if_then_else_
   name-to n j h = go (isAtom n) (t .structs ∋ n) refl refl h
     where
-      go : (a b : Bool) → isAtom n ≡ a → t .structs ∋ n ≡ b → (if a then definite (eqb n nameRustString) else if b then to n else definite (t .rust ∋ n || t .aliases ∋ n)) ≡ to j → (16 ≤ n) × (n ≡ j) × T (t .structs ∋ n)
+      go : (a b : Bool) → isAtom n ≡ a → t .structs ∋ n ≡ b
+          → (if a then definite (eqb n nameRustString) else if b then to n else definite (t .rust ∋ n || t .aliases ∋ n)) ≡ to j
+          → (16 ≤ n) × (n ≡ j) × T (t .structs ∋ n)
       go true b ea eb e = absurd (definite-to (eqb n nameRustString) e)
       go false true ea eb e = (no-atom n ea, (cc), subst T (sym eb) tt)
       go false false ea eb e = absurd (definite-to (t .rust ∋ n || t .aliases ∋ n) e)
@@ -171,14 +177,16 @@ module _ (s : List ℕ) (fits : Fits s) where
   here-bad : (q : ℕ) → lookHere q ≡ bad → Bad s q
   here-bad q h = go (eqb (kind s q) Ident) refl h
     where
-      go : (b : Bool) → eqb (kind s q) Ident ≡ b → elim b as (λ _. Look) [ true ↦ lookName s t (rowName s q) | false ↦ definite (bads (kind s q)) ] ≡ bad → Bad s q
+      go : (b : Bool) → eqb (kind s q) Ident ≡ b → elim b as (λ _. Look) [ true ↦ lookName s t (rowName s q) | false ↦ definite (bads (kind s q)) ] ≡ bad
+          → Bad s q
       go true e p = name-bad q (rowName s q) refl (eqb→eq (kind s q) Ident (subst T (sym e) tt)) p
       go false e p = kind-bad q (definite-bad (bads (kind s q)) p)
 
   here-to : (q j : ℕ) → lookHere q ≡ to j → (kind s q ≡ Ident) × (16 ≤ rowName s q) × (rowName s q ≡ j) × T (t .structs ∋ rowName s q)
   here-to q j h = go (eqb (kind s q) Ident) refl h
     where
-      go : (b : Bool) → eqb (kind s q) Ident ≡ b → elim b as (λ _. Look) [ true ↦ lookName s t (rowName s q) | false ↦ definite (bads (kind s q)) ] ≡ to j → (kind s q ≡ Ident) × (16 ≤ rowName s q) × (rowName s q ≡ j) × T (t .structs ∋ rowName s q)
+      go : (b : Bool) → eqb (kind s q) Ident ≡ b → elim b as (λ _. Look) [ true ↦ lookName s t (rowName s q) | false ↦ definite (bads (kind s q)) ] ≡ to j
+          → (kind s q ≡ Ident) × (16 ≤ rowName s q) × (rowName s q ≡ j) × T (t .structs ∋ rowName s q)
       go true e p = let r = name-to (rowName s q) j p in (eqb→eq (kind s q) Ident (subst T (sym e) tt), r .0, r .1, r .2)
       go false e p = absurd (definite-to (bads (kind s q)) p)
 

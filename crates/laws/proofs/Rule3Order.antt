@@ -2,11 +2,12 @@
 -- Assumes nothing.
 use Prim.Native.Nat.{ℕ, zero, suc, _+_, _≤_, _<_, min}
 use mathlib.Core.Path.{_≡_, refl, sym, ap, _∙_, subst}
-use mathlib.Core.Logic.{_≢_, _⊎_, inl, inr, _↔_}
-use mathlib.Core.Bool.{Bool, true, false, _&&_}
-use mathlib.Core.List.{List, [], _∷_}
+use mathlib.Core.Logic.{_⊎_, inl, inr, _↔_}
+use mathlib.Core.Bool.{Bool, _&&_}
+use mathlib.Core.List.{List}
 use native.Mathlib.Omega.{arith}
-use lib.Dec.{T, eqb, ltb, ltb→lt, lt→ltb}
+use lib.Dec.{T}
+use borrow.Author.Tests.{lt-ltb, le-ltb}
 use lib.ListN.{length, getD, take, drop, replicate, length-replicate}
 use lib.Seq.{sets, sets-eq, take-at}
 use Rattle.rules.specs.Diagnostics.{bit}
@@ -14,18 +15,17 @@ use Rattle.rules.specs.View.{Struct, items, itemIs}
 use Rattle.rules.specs.Types.{typesOf}
 use Rattle.rules.specs.Count.{count, place}
 use Rattle.rules.specs.Graph.{Graph}
-use Rattle.laws.proofs.Chains.{Good, Edge, Chain, edge, link, Cycle, Endless}
-use Rattle.rules.specs.Walk.{Out, sortOut}
+use Rattle.laws.proofs.Chains.{Edge, Chain, edge, link, Cycle, Endless}
+use Rattle.rules.specs.Walk.{sortOut}
 use Rattle.rules.specs.Tiers.{tiersOf}
 use Rattle.rules.specs.Answer.{places}
 use Rattle.laws.proofs.TierRule.{TierRule}
 use Rattle.rules.specs.Order.{graphOf}
 use Rattle.rules.specs.Rule3.{IsStruct, Holds, Tiers3, structsTo, one, more}
 use Rattle.rules.specs.Rule3 as R
-use Rattle.laws.proofs.Counts.{Eq?, same, other, eq?}
-use Rattle.laws.proofs.WalkOrder.{InOrder, in-order, each-once, chain-end}
+use Rattle.laws.proofs.WalkOrder.{in-order, each-once, chain-end}
 use Rattle.laws.proofs.WalkCalls.{order-length, order-few}
-use Rattle.laws.proofs.Sums.{sumTo}
+use Rattle.laws.proofs.Sums.{sumTo, sum-cut}
 use Rattle.laws.proofs.Tests.{is-true, is-false}
 use Rattle.laws.proofs.TierTable.{table-all, table-none}
 use Rattle.laws.proofs.TierRule.{tier-rule}
@@ -66,31 +66,24 @@ module _ (s : List ℕ) (fits : Fits s) where
 
   -- ## The order's places
 
-  struct-bit : ℕ → ℕ
-  struct-bit x = bit (ltb x (items s) && itemIs s Struct x)
-
   sum-low : (k : ℕ) → k ≤ items s → sumTo k (λ x. bit (G .struct x)) ≡ structsTo s k
   unfolding sumTo structsTo
   sum-low zero l = refl
-  sum-low (suc k) l = rw (is-true (ltb k (items s)) (lt→ltb k (items s) l), sum-low k (omega arith))
+  sum-low (suc k) l = rw (lt-ltb k (items s) l, sum-low k (omega arith))
 
   sum-high : (k : ℕ) → items s ≤ k → sumTo k (λ x. bit (G .struct x)) ≡ structsTo s (items s)
-  unfolding sumTo
-  sum-high zero l = sum-low zero (omega arith) ∙ ap (structsTo s) (let e : 0 ≡ items s = omega arith in e)
-  sum-high (suc k) l = go (eq? (items s) (suc k)) (sum-high k)
-    where
-      go : Eq? (items s) (suc k) → (items s ≤ k → sumTo k (λ x. bit (G .struct x)) ≡ structsTo s (items s)) → sumTo k (λ x. bit (G .struct x)) + bit (G .struct k) ≡ structsTo s (items s)
-      go (same _ e) ih = sum-low (suc k) (omega arith) ∙ ap (structsTo s) (sym e)
-      go (other _ e) ih =
-          let z : ltb k (items s) ≡ false = is-false (ltb k (items s)) (λ t. let l′ = ltb→lt k (items s) t in omega arith) in
-          rw z (omega (arith, ih (omega arith)))
+  sum-high k l =
+      sum-cut (items s) k (λ x. bit (G .struct x)) l (λ x m. ap (λ (b : Bool). bit (b && itemIs s Struct x)) (le-ltb x (items s) m)) ∙ sum-low (items s) (omega arith)
 
   pub places-are : length sorted ≡ structsTo s (items s)
   places-are = order-length G 255 (good s fits) ∙ sum-high 255 (fits .few)
 
   pub order-is : take (structsTo s (items s)) (places sorted) ≡ sorted
   unfolding places
-  order-is = ap (λ n. take n (places sorted)) (sym places-are) ∙ stored (replicate 255 0) sorted (let l : length sorted ≤ 255 = order-few G 255 (good s fits) in subst (λ (n : ℕ). length sorted ≤ n) (sym (length-replicate {A = ℕ} 255 0)) l)
+  order-is =
+      ap (λ n. take n (places sorted)) (sym places-are)
+      ∙ stored (replicate 255 0) sorted
+      (let l : length sorted ≤ 255 = order-few G 255 (good s fits) in subst (λ (n : ℕ). length sorted ≤ n) (sym (length-replicate {A = ℕ} 255 0)) l)
     where
       stored : (l o : List ℕ) → length o ≤ length l → take (length o) (sets l 0 o) ≡ o
       stored l o h = rw (sets-eq o l 0 (omega arith)) (take-at o (drop (0 + length o) l) (length o) refl)
@@ -129,6 +122,7 @@ module _ (s : List ℕ) (fits : Fits s) where
       rule : TierRule G (λ x. getD table x 0)
       rule = tier-rule G (items s) (good-items s fits) (λ x. getD table x 0) (table-all G (items s) (good-items s fits) (fits .few))
 
-      most : (i : ℕ) → IsStruct s i → (getD table i 0 ≡ 0) ⊎ ((j : ℕ) × Edge G i j × (getD table i 0 ≡ min 254 (suc (getD table j 0)))) → (getD table i 0 ≡ 0) ⊎ ((k : ℕ) × Holds s i k × (getD table i 0 ≡ min 254 (suc (getD table k 0))))
+      most : (i : ℕ) → IsStruct s i → (getD table i 0 ≡ 0) ⊎ ((j : ℕ) × Edge G i j × (getD table i 0 ≡ min 254 (suc (getD table j 0))))
+          → (getD table i 0 ≡ 0) ⊎ ((k : ℕ) × Holds s i k × (getD table i 0 ≡ min 254 (suc (getD table k 0))))
       most i si (inl e) = inl e
       most i si (inr r) = inr (r .0, edge-holds s i (r .0) si (r .1), r .2)

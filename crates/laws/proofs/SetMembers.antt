@@ -1,6 +1,6 @@
 -- A name is in a set of collected names exactly where an item that enters the set bears it.
 -- Assumes nothing.
-use Prim.Native.Nat.{ℕ, zero, suc, _≤_, _<_}
+use Prim.Native.Nat.{ℕ, zero, suc, _<_}
 use mathlib.Core.Path.{_≡_, refl, sym, ap, _∙_, subst}
 use mathlib.Core.Logic.{_↔_, _⊎_, inl, inr}
 use mathlib.Core.Bool.{Bool, true, false, not, _&&_, _||_}
@@ -8,10 +8,10 @@ use mathlib.Core.List.{List}
 use native.Mathlib.Omega.{arith}
 use lib.Dec.{T, eqb, leb, eqb→eq, eqb-refl}
 use lib.ListN.{length}
-use Rattle.rules.specs.Names.{Words, empty, add, _∋_}
+use Rattle.rules.specs.Names.{Words, add, _∋_}
 use Rattle.rules.specs.View.{Struct, Enum, CxxType, RustType, TypeAlias, items, itemKind, itemIs, itemName, typeTrusted}
 use Rattle.rules.specs.Collect.{namesTo, entersStructs, entersEnums, entersCxx, entersRust, entersAliases, entersUntrusted}
-use Rattle.rules.specs.Types.{Types, typesOf}
+use Rattle.rules.specs.Types.{typesOf}
 use Rattle.rules.specs.Rule3.{Borne}
 use Rattle.laws.proofs.Counts.{Eq?, same, other, eq?}
 use Rattle.laws.proofs.NameSets.{has-add, length-add, has-empty}
@@ -31,7 +31,8 @@ module _ (s : List ℕ) (p : ℕ → Bool) where
   length-names zero = refl
   length-names (suc k) = go (p k) (length-names k)
     where
-      go : (b : Bool) → length (namesTo s p k) ≡ 4 → length {A = ℕ} (elim b as (λ _. Words) [ true ↦ add (namesTo s p k) (itemName s k) | false ↦ namesTo s p k ]) ≡ 4
+      go : (b : Bool) → length (namesTo s p k) ≡ 4
+          → length {A = ℕ} (elim b as (λ _. Words) [ true ↦ add (namesTo s p k) (itemName s k) | false ↦ namesTo s p k ]) ≡ 4
       go true h = length-add (namesTo s p k) (itemName s k) ∙ h
       go false h = h
 
@@ -56,7 +57,8 @@ module _ (s : List ℕ) (p : ℕ → Bool) where
               by (same _ d) = absurd (subst T (ap p d ∙ e) t)
               by (other _ d) = record { item = i; below = omega arith; passes = t; bears = b }
 
-      go : (b : Bool) → p k ≡ b → T (w ∋ n) ↔ Member s p k n → T ((elim b as (λ _. Words) [ true ↦ add w (itemName s k) | false ↦ w ]) ∋ n) ↔ Member s p (suc k) n
+      go : (b : Bool) → p k ≡ b → T (w ∋ n) ↔ Member s p k n
+          → T ((elim b as (λ _. Words) [ true ↦ add w (itemName s k) | false ↦ w ]) ∋ n) ↔ Member s p (suc k) n
       go false e ih = (λ t. wider (ih .0 t), λ m. ih .1 (narrow e m))
       go true e ih = (λ t. to (or-cases (eqb n (itemName s k)) (w ∋ n) (subst T a t)), λ m. subst T (sym a) (from m))
         where
@@ -74,14 +76,19 @@ module _ (s : List ℕ) (p : ℕ → Bool) where
           from m = by (eq? (m .item) k)
             where
               by : Eq? (m .item) k → T (eqb n (itemName s k) || w ∋ n)
-              by (same _ d) = or-left (eqb n (itemName s k)) (w ∋ n) (subst (λ (x : ℕ). T (eqb x (itemName s k))) (ap (itemName s) (sym d) ∙ m .bears) (eqb-refl (itemName s k)))
-              by (other _ d) = let l : m .item < suc k = m .below in or-right (eqb n (itemName s k)) (w ∋ n) (ih .1 (record { item = m .item; below = omega arith; passes = m .passes; bears = m .bears }))
+              by (same _ d) =
+                  or-left (eqb n (itemName s k)) (w ∋ n)
+                  (subst (λ (x : ℕ). T (eqb x (itemName s k))) (ap (itemName s) (sym d) ∙ m .bears) (eqb-refl (itemName s k)))
+              by (other _ d) =
+                  let l : m .item < suc k = m .below in
+                  or-right (eqb n (itemName s k)) (w ∋ n) (ih .1 (record { item = m .item; below = omega arith; passes = m .passes; bears = m .bears }))
 
 -- ## The sets of a sheet
 
 module _ (s : List ℕ) (fits : Fits s) where
   -- of a test that asks for one kind
-  of-kind : (k : ℕ) → T ((leb 1 k && leb k 4) || eqb k 7) → (p : ℕ → Bool) → ((i : ℕ) → T (p i) ↔ (itemKind s i ≡ k)) → (n : ℕ) → T (namesTo s p (items s) ∋ n) ↔ Borne s k n
+  of-kind : (k : ℕ) → T ((leb 1 k && leb k 4) || eqb k 7) → (p : ℕ → Bool) → ((i : ℕ) → T (p i) ↔ (itemKind s i ≡ k)) → (n : ℕ)
+      → T (namesTo s p (items s) ∋ n) ↔ Borne s k n
   of-kind k tk p is-p n =
       let r = member-is s p (items s) (λ i l t. fits .named i l (kind-type s k tk i (is-p i .0 t))) n in (
         λ t. let m = r .0 t in record { item = m .item; below = m .below; is-kind = is-p (m .item) .0 (m .passes); bears = m .bears },
@@ -135,8 +142,20 @@ module _ (s : List ℕ) (fits : Fits s) where
           by (inr e) = inr (record { item = m .item; below = m .below; is-kind = e; bears = m .bears })
 
       from : Borne s CxxType n ⊎ Borne s TypeAlias n → Member s (entersCxx s) (items s) n
-      from (inl b) = record { item = b .item; below = b .below; passes = or-left (itemIs s CxxType (b .item)) (itemIs s TypeAlias (b .item)) (kind-is CxxType (b .item) .1 (b .is-kind)); bears = b .bears }
-      from (inr b) = record { item = b .item; below = b .below; passes = or-right (itemIs s CxxType (b .item)) (itemIs s TypeAlias (b .item)) (kind-is TypeAlias (b .item) .1 (b .is-kind)); bears = b .bears }
+      from (inl b) =
+          record {
+            item = b .item;
+            below = b .below;
+            passes = or-left (itemIs s CxxType (b .item)) (itemIs s TypeAlias (b .item)) (kind-is CxxType (b .item) .1 (b .is-kind));
+            bears = b .bears;
+          }
+      from (inr b) =
+          record {
+            item = b .item;
+            below = b .below;
+            passes = or-right (itemIs s CxxType (b .item)) (itemIs s TypeAlias (b .item)) (kind-is TypeAlias (b .item) .1 (b .is-kind));
+            bears = b .bears;
+          }
 
   pub untrusted-are : (n : ℕ) → T (typesOf s .untrusted ∋ n) ↔ Member s (entersUntrusted s) (items s) n
   unfolding typesOf entersUntrusted

@@ -1,7 +1,7 @@
 -- Sets of names, once for all sets: a set is four words below 2 ^ 64, `add` keeps it so, its size is the count of its names below 256, and two sets with the
 -- same names are the same words. All sets of a sheet are sets.
 -- Assumes nothing.
-use mathlib.Core.Path.{_≡_, refl, sym, ap, _∙_, subst}
+use mathlib.Core.Path.{_≡_, refl, sym, ap, _∙_}
 use mathlib.Core.Logic.{_≢_}
 use mathlib.Core.Bool.{Bool, true, false, _&&_, _||_}
 use mathlib.Core.List.{List, [], _∷_}
@@ -13,18 +13,16 @@ use lib.Count.{onesIn}
 use lib.Pow.{pow-lt, shr-shr}
 use lib.Dec.{eqb, ltb}
 use borrow.Author.Tests.{le-ltb, lt-ltb}
-use lib.ListN.{length, getD, set, length-set}
+use lib.ListN.{length, getD, set}
 use lib.Seq.{getD-set-same, getD-set-other, set-out, ext-getD}
-use Rattle.rules.specs.Base.{if_then_else_}
 use Rattle.rules.specs.Diagnostics.{bit}
 use Rattle.rules.specs.View.{items, itemName}
 use Rattle.rules.specs.Collect.{namesTo, entersStructs, entersEnums, entersCxx, entersRust, entersAliases, entersUntrusted}
 use Rattle.rules.specs.Trivial.{requiredOf}
-use Rattle.rules.specs.Types.{Types, typesOf}
+use Rattle.rules.specs.Types.{typesOf}
 use Rattle.rules.specs.Improper.{Looks, looksOf, found, attempt, passTo, search, improperOf}
 use Rattle.rules.specs.Names.{Words, empty, bitOf, _∋_, add, size, namesBelow}
 use Rattle.laws.proofs.Counts.{Eq?, same, other, eq?}
-use Rattle.laws.proofs.Tests.{never, bit-le}
 use Rattle.laws.proofs.Sums.{sumTo, sum-same, sum-bits, sum-first, sum-split}
 use Rattle.laws.proofs.NameSets.{has-add, has-empty, length-add, empty-get}
 
@@ -100,7 +98,8 @@ size-sum (w ∷ ws) =
     let z : 64 * length (w ∷ ws) ≡ 64 + 64 * length ws = omega arith in
     rw (z, sum-split 64 (64 * length ws) (λ n. bit ((w ∷ ws) ∋ n)), size-sum ws)
     (ap (λ m. m + sumTo (64 * length ws) (λ n. bit (ws ∋ n))) (ones-sum 64 w ∙ sum-same 64 (bitOf w) (λ n. bit ((w ∷ ws) ∋ n)) (λ n l. in-first w n ws l))
-    ∙ ap (λ m. sumTo 64 (λ n. bit ((w ∷ ws) ∋ n)) + m) (sum-same (64 * length ws) (λ n. bit (ws ∋ n)) (λ n. bit ((w ∷ ws) ∋ (64 + n))) (λ n _. in-later w n ws)))
+    ∙ ap (λ m. sumTo 64 (λ n. bit ((w ∷ ws) ∋ n)) + m)
+    (sum-same (64 * length ws) (λ n. bit (ws ∋ n)) (λ n. bit ((w ∷ ws) ∋ (64 + n))) (λ n _. in-later w n ws)))
 
 -- how many names below 256 it has
 pub size-is : (w : Words) → IsSet w → size w ≡ sumTo 256 (λ n. bit (w ∋ n))
@@ -233,4 +232,5 @@ sets-of s =
 -- a name is required trivial exactly where it has a reason
 pub required-is : (s : List ℕ) (n : ℕ) → n < 256 → typesOf s .requiredTrivial ∋ n ≡ ltb 0 (getD (typesOf s .reasons) n 0)
 unfolding typesOf requiredOf
-required-is s n l = below-is (λ n. ltb 0 (getD (typesOf s .reasons) n 0)) 256 n (omega arith) ∙ ap (λ b. b && ltb 0 (getD (typesOf s .reasons) n 0)) (lt-ltb n 256 l)
+required-is s n l =
+    below-is (λ n. ltb 0 (getD (typesOf s .reasons) n 0)) 256 n (omega arith) ∙ ap (λ b. b && ltb 0 (getD (typesOf s .reasons) n 0)) (lt-ltb n 256 l)

@@ -64,7 +64,8 @@ unfolding weight
 weight-sum n h [] b = sym (sum-none n (λ x. 0 * h x) (λ x _. omega arith))
 weight-sum n h (y ∷ l) b =
     let e₁ : weight h l ≡ sumTo n (λ x. count x l * h x) = weight-sum n h l (λ x m. b x (omega arith)) in
-    let e₂ : sumTo n (λ x. (bit (eqb x y) + count x l) * h x) ≡ sumTo n (λ x. bit (eqb x y) * h x + count x l * h x) = sum-same n (λ x. (bit (eqb x y) + count x l) * h x) (λ x. bit (eqb x y) * h x + count x l * h x) (λ x _. omega arith) in
+    let e₂ : sumTo n (λ x. (bit (eqb x y) + count x l) * h x) ≡ sumTo n (λ x. bit (eqb x y) * h x + count x l * h x) =
+    sum-same n (λ x. (bit (eqb x y) + count x l) * h x) (λ x. bit (eqb x y) * h x + count x l * h x) (λ x _. omega arith) in
     omega (arith, e₁, e₂, sum-add n (λ x. bit (eqb x y) * h x) (λ x. count x l * h x), sum-one n y h (b y (let z : 0 < bit true + count y l = omega arith in rw (eqb-same y) z)))
 
 pub weight-one : (l : List ℕ) → length l ≡ weight (λ _. 1) l

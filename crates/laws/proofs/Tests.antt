@@ -90,7 +90,8 @@ unfolding some
 none-passes zero p h k l = absurd (omega arith)
 none-passes (suc n) p h k l = go (p n) refl h (none-passes n p)
   where
-    go : (b : Bool) → p n ≡ b → elim b as (λ _. Bool) [ true ↦ true | false ↦ some n p ] ≡ false → (some n p ≡ false → (k : ℕ) → k < n → p k ≡ false) → p k ≡ false
+    go : (b : Bool) → p n ≡ b → elim b as (λ _. Bool) [ true ↦ true | false ↦ some n p ] ≡ false → (some n p ≡ false → (k : ℕ) → k < n → p k ≡ false)
+        → p k ≡ false
     go true e t ih = never (sym t)
     go false e t ih = by (eq? k n)
       where

@@ -1,23 +1,24 @@
 -- One pass over the order finds all tiers: each struct item begins at 255, and gets its tier when its turn comes. An item that is asked for before its turn lies
 -- on a cycle, so its 255 is right already. `pass-is`: the pass gives the tiers of specs/Tiers.
+-- Assumes nothing.
 use mathlib.Core.Path.{_≡_, refl, sym, ap, _∙_, subst}
 use mathlib.Core.Logic.{_≢_, _⊎_, inl, inr, _↔_}
 use mathlib.Core.Bool.{Bool, true, false}
-use mathlib.Core.List.{List, [], _∷_}
-use Prim.Native.Nat.{ℕ, zero, suc, _+_, _≤_, _<_}
+use mathlib.Core.List.{List}
+use Prim.Native.Nat.{ℕ, zero, suc, _≤_, _<_}
 use native.Mathlib.Omega.{arith}
 use native.Mathlib.Decide.{decLt}
-use lib.Dec.{T, eqb}
+use lib.Dec.{T}
 use lib.ListN.{length, getD, set, length-set, replicate, length-replicate}
 use lib.Seq.{getD-set-same, getD-set-other, ext-getD}
 use Rattle.rules.specs.Diagnostics.{bit}
 use Rattle.rules.specs.Count.{count, place}
 use Rattle.laws.proofs.Counts.{Eq?, same, other, eq?, place-lt, place-of, count-get, get-place}
 use Rattle.rules.specs.Graph.{Graph}
-use Rattle.laws.proofs.Chains.{Good, Edge, Chain, edge, link, Cycle}
+use Rattle.laws.proofs.Chains.{Good, Edge, Chain, edge, link}
 use Rattle.rules.specs.Walk.{sortOut}
 use Rattle.laws.proofs.WalkOrder.{InOrder, in-order, each-once, edge-or-back, stands, chain-end}
-use Rattle.laws.proofs.LongestChain.{Loops, tops-same, up, tier-wide, tier, tier-endless, tier-step}
+use Rattle.laws.proofs.LongestChain.{tops-same, up, tier-wide, tier, tier-endless, tier-step}
 use Rattle.rules.specs.Tiers.{tops, tiersOf}
 use Rattle.rules.specs.Answer.{places}
 use Rattle.laws.proofs.TierTable.{table-all, table-none}
@@ -72,7 +73,9 @@ started G n (suc k) l = go (startTo G k (replicate n 0)) (started G n k (omega a
 pub tiers-other : (G : Graph) (o : List ℕ) (p : ℕ) (t : List ℕ) (x : ℕ) → ((q : ℕ) → q < p → getD o q 0 ≢ x) → getD (tiersTo G o p t) x 0 ≡ getD t x 0
 unfolding tiersTo
 tiers-other G o zero t x h = refl
-tiers-other G o (suc p) t x h = getD-set-other (tiersTo G o p t) (getD o p 0) x (tierFrom G (tiersTo G o p t) (getD o p 0)) 0 (λ e. h p (omega arith) (sym e)) ∙ tiers-other G o p t x (λ q l. h q (omega arith))
+tiers-other G o (suc p) t x h =
+    getD-set-other (tiersTo G o p t) (getD o p 0) x (tierFrom G (tiersTo G o p t) (getD o p 0)) 0 (λ e. h p (omega arith) (sym e))
+    ∙ tiers-other G o p t x (λ q l. h q (omega arith))
 
 pub length-tiers : (G : Graph) (o : List ℕ) (p : ℕ) (t : List ℕ) → length (tiersTo G o p t) ≡ length t
 unfolding tiersTo
@@ -154,7 +157,8 @@ module _ (G : Graph) (n : ℕ) (good : Good G n) where
       → getD (tiersTo G (sortOut G n .sorted) (length (sortOut G n .sorted)) t) x 0 ≡ tier G n x
   tiers-right t l h x sx =
       let o = sortOut G n .sorted in
-      steps o (each-once G n good) (edge-or-back G n good) (length o) (omega arith) t (record { size = l; given = λ y q. absurd (omega arith); waits = λ y sy _. h y sy })
+      steps o (each-once G n good) (edge-or-back G n good) (length o) (omega arith) t
+      (record { size = l; given = λ y q. absurd (omega arith); waits = λ y sy _. h y sy })
       .given x (place-lt o x (stands G n good x sx))
 
   -- every struct item stands after all that it holds exactly where no tier is 255
@@ -183,7 +187,8 @@ module _ (G : Graph) (n : ℕ) (good : Good G n) (wide : Good G 255) where
   length-start zero t = refl
   length-start (suc k) t = go (G .struct k) (length-start k t)
     where
-      go : (b : Bool) → length (startTo G k t) ≡ length t → length {A = ℕ} (elim b as (λ _. List ℕ) [ true ↦ set (startTo G k t) k 255 | false ↦ startTo G k t ]) ≡ length t
+      go : (b : Bool) → length (startTo G k t) ≡ length t
+          → length {A = ℕ} (elim b as (λ _. List ℕ) [ true ↦ set (startTo G k t) k 255 | false ↦ startTo G k t ]) ≡ length t
       go true h = length-set (startTo G k t) k 255 ∙ h
       go false h = h
 

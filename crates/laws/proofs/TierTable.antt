@@ -1,15 +1,13 @@
 -- The tiers of specs/Tiers, entry by entry: each struct item has its tier, the others have 0.
 -- Assumes nothing.
 use mathlib.Core.Path.{_≡_, refl, sym, ap, _∙_, subst}
-use mathlib.Core.Logic.{_≢_}
 use mathlib.Core.Bool.{Bool, true, false}
-use mathlib.Core.List.{List, [], _∷_, _++_, map}
-use Prim.Native.Nat.{ℕ, zero, suc, _+_, _≤_, _<_}
+use mathlib.Core.List.{List, [], _∷_, map}
+use Prim.Native.Nat.{ℕ, zero, suc, _≤_, _<_}
 use native.Mathlib.Omega.{arith}
 use native.Mathlib.Decide.{decLt}
 use lib.Dec.{T, leb, leb→le}
-use lib.ListN.{length, getD, replicate, length-map, length-replicate, List·getD-eq-default}
-use Rattle.rules.specs.Base.{over}
+use lib.ListN.{length, getD, length-map, length-replicate, List·getD-eq-default}
 use Rattle.rules.specs.Graph.{Graph}
 use Rattle.rules.specs.Answer.{places}
 use Rattle.rules.specs.Tiers.{tops, above, longest, capped, tierAt, tiersOf}
@@ -37,9 +35,12 @@ module _ (G : Graph) (n : ℕ) (good : Good G n) where
   longest-is : (k x : ℕ) → T (G .struct x) → getD (longest G n k) x 0 ≡ long G k x
   unfolding longest long above
   longest-is zero x sx = zeros-get n x
-  longest-is (suc k) x sx = over-get (λ i. above G (longest G n k) i) 0 n x (good .below x sx) ∙ go (G .struct x) refl (λ j e. ap (λ m. suc m) (longest-is k j (chain-end G n good (edge e))))
+  longest-is (suc k) x sx =
+      over-get (λ i. above G (longest G n k) i) 0 n x (good .below x sx)
+      ∙ go (G .struct x) refl (λ j e. ap (λ m. suc m) (longest-is k j (chain-end G n good (edge e))))
     where
-      go : (b : Bool) → G .struct x ≡ b → ((j : ℕ) → Edge G x j → suc (getD (longest G n k) j 0) ≡ suc (long G k j)) → _≡_ {A = ℕ} (elim b as (λ _. ℕ) [ true ↦ tops (λ m. suc m) (λ j. getD (longest G n k) j 0) G x (G .fields x) | false ↦ 0 ]) (tops (λ t. suc t) (λ j. long G k j) G x (G .fields x))
+      go : (b : Bool) → G .struct x ≡ b → ((j : ℕ) → Edge G x j → suc (getD (longest G n k) j 0) ≡ suc (long G k j))
+          → _≡_ {A = ℕ} (elim b as (λ _. ℕ) [ true ↦ tops (λ m. suc m) (λ j. getD (longest G n k) j 0) G x (G .fields x) | false ↦ 0 ]) (tops (λ t. suc t) (λ j. long G k j) G x (G .fields x))
       go true e held = tops-same (λ m. suc m) (λ m. suc m) (λ j. getD (longest G n k) j 0) (λ j. long G k j) G x held
       go false e held = absurd (subst T e sx)
 
@@ -49,7 +50,8 @@ module _ (G : Graph) (n : ℕ) (good : Good G n) where
   longest-none zero x l nt = zeros-get n x
   longest-none (suc k) x l nt = over-get (λ i. above G (longest G n k) i) 0 n x l ∙ go (G .struct x) refl
     where
-      go : (b : Bool) → G .struct x ≡ b → _≡_ {A = ℕ} (elim b as (λ _. ℕ) [ true ↦ tops (λ m. suc m) (λ j. getD (longest G n k) j 0) G x (G .fields x) | false ↦ 0 ]) 0
+      go : (b : Bool) → G .struct x ≡ b
+          → _≡_ {A = ℕ} (elim b as (λ _. ℕ) [ true ↦ tops (λ m. suc m) (λ j. getD (longest G n k) j 0) G x (G .fields x) | false ↦ 0 ]) 0
       go true e = absurd (nt (subst T (sym e) tt))
       go false e = refl
 

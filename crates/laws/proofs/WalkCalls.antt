@@ -1,19 +1,19 @@
--- The visits that the walk makes, without the walk: the struct items, and their fields that lead to one.
+-- The visits that the walk makes, counted without the walk: the struct items, and their fields that lead to one.
+-- Assumes nothing.
 use mathlib.Core.Path.{_≡_, refl, sym, ap, _∙_, subst}
-use mathlib.Core.Logic.{_≢_}
 use mathlib.Core.Bool.{Bool, true, false, not}
-use mathlib.Core.List.{List, [], _∷_, _++_}
+use mathlib.Core.List.{List, [], _∷_}
 use Prim.Native.Nat.{ℕ, zero, suc, _*_, _+_, _≤_, _<_}
 use native.Mathlib.Omega.{arith}
 use lib.Dec.{T, eqb}
 use lib.ListN.{length, getD, set, length-set, replicate, length-replicate}
 use Rattle.rules.specs.Diagnostics.{bit}
 use Rattle.rules.specs.Count.{count}
-use Rattle.laws.proofs.Counts.{Eq?, same, other, eq?, eqb-true, eqb-false, eqb-same, fresh, fresh-set, fresh-zeros}
+use Rattle.laws.proofs.Counts.{eqb-true, eqb-false, fresh, fresh-set, fresh-zeros}
 use Rattle.rules.specs.Graph.{Graph}
 use Rattle.laws.proofs.Chains.{Good}
 use Rattle.rules.specs.Walk.{Out, still, join, flagged, seen, finished, fieldOut, fieldsOut, visitOut, itemOut, itemsOut, sortOut}
-use Rattle.laws.proofs.WalkFuel.{Shrinks, Down, fields-shrinks, field-shrinks, visit-shrinks}
+use Rattle.laws.proofs.WalkFuel.{Shrinks, Down, fields-shrinks, visit-shrinks}
 use Rattle.laws.proofs.WalkOrder.{each-once}
 use Rattle.laws.proofs.Sums.{sumTo, sum-same, sum-add, sum-bits, weight, weight-append, weight-sum, weight-one}
 
@@ -35,7 +35,8 @@ module _ (G : Graph) (n : ℕ) (good : Good G n) where
   Counter : ℕ → (List ℕ → ℕ → Out) → Type 0
   Counter f v = (m : List ℕ) (j : ℕ) → length m ≡ n → fresh m < f → j < n → Counts (v m j) 1
 
-  field-calls : (f : ℕ) (v : List ℕ → ℕ → Out) → Counter f v → (i k : ℕ) → k < G .fields i → (m : List ℕ) → length m ≡ n → fresh m < f → Counts (fieldOut v G i k m) (bit (not (eqb (G .to i k) 255)))
+  field-calls : (f : ℕ) (v : List ℕ → ℕ → Out) → Counter f v → (i k : ℕ) → k < G .fields i → (m : List ℕ) → length m ≡ n → fresh m < f
+      → Counts (fieldOut v G i k m) (bit (not (eqb (G .to i k) 255)))
   unfolding fieldOut Counts Counter weight
   field-calls f v h i k l m z d = go (eqb (G .to i k) 255) refl
     where
@@ -47,7 +48,8 @@ module _ (G : Graph) (n : ℕ) (good : Good G n) where
   unfolding Counts
   joined a b c d p q = omega (arith, weight-append all (a .sorted) (b .sorted))
 
-  fields-calls : (f : ℕ) (v : List ℕ → ℕ → Out) → Counter f v → Down v → (i k : ℕ) → k ≤ G .fields i → (m : List ℕ) → length m ≡ n → fresh m < f → Counts (fieldsOut v G i k m) (leading G i k)
+  fields-calls : (f : ℕ) (v : List ℕ → ℕ → Out) → Counter f v → Down v → (i k : ℕ) → k ≤ G .fields i → (m : List ℕ) → length m ≡ n → fresh m < f
+      → Counts (fieldsOut v G i k m) (leading G i k)
   unfolding fieldsOut Counts weight sumTo
   fields-calls f v h d i zero l m z q = refl
   fields-calls f v h d i (suc k) l m z q =
@@ -60,7 +62,8 @@ module _ (G : Graph) (n : ℕ) (good : Good G n) where
   visit-calls zero m i z q b = absurd (omega arith)
   visit-calls (suc f) m i z q b = go (visit-calls f) (eqb (getD m i 0) 0) refl
     where
-      go : Counter f (visitOut f G) → (b : Bool) → eqb (getD m i 0) 0 ≡ b → Counts (elim b as (λ _. Out) [ true ↦ finished i (fieldsOut (visitOut f G) G i (G .fields i) (set m i 1)) | false ↦ seen (eqb (getD m i 0) 2) m ]) 1
+      go : Counter f (visitOut f G) → (b : Bool) → eqb (getD m i 0) 0 ≡ b
+          → Counts (elim b as (λ _. Out) [ true ↦ finished i (fieldsOut (visitOut f G) G i (G .fields i) (set m i 1)) | false ↦ seen (eqb (getD m i 0) 2) m ]) 1
       go ih true e =
           let d = fresh-set m i 0 (omega arith) (eqb-true (getD m i 0) 0 e) in
           let a = fieldsOut (visitOut f G) G i (G .fields i) (set m i 1) in
@@ -97,7 +100,9 @@ module _ (G : Graph) (n : ℕ) (good : Good G n) where
           let s = item-shrinks f k (a .marks) in
           record {
             shrinks = record { size = s .size ∙ p .shrinks .size; less = omega (arith, s .less, p .shrinks .less) };
-            counts = joined a (itemOut f G k (a .marks)) (sumTo k (λ x. bit (G .struct x))) (bit (G .struct k)) (p .counts) (item-calls f k (a .marks) (p .shrinks .size ∙ length-replicate n 0) (omega (arith, p .shrinks .less, fresh-zeros n)));
+            counts =
+                joined a (itemOut f G k (a .marks)) (sumTo k (λ x. bit (G .struct x))) (bit (G .struct k)) (p .counts)
+                (item-calls f k (a .marks) (p .shrinks .size ∙ length-replicate n 0) (omega (arith, p .shrinks .less, fresh-zeros n)));
           }
 
   is-struct : (x : ℕ) → 0 < count x (sortOut G n .sorted) → T (G .struct x)
@@ -112,16 +117,20 @@ module _ (G : Graph) (n : ℕ) (good : Good G n) where
   unfolding sortOut Counts all work
   calls-are =
       let c : sortOut G n .calls ≡ sumTo n (λ x. bit (G .struct x)) + weight all (sortOut G n .sorted) = items (suc n) (omega arith) n .counts in
-      let e₁ : weight all (sortOut G n .sorted) ≡ sumTo n (λ x. count x (sortOut G n .sorted) * all x) = weight-sum n all (sortOut G n .sorted) (λ x m. good .below x (is-struct x m)) in
-      let e₂ : sumTo n (λ x. count x (sortOut G n .sorted) * all x) ≡ sumTo n (λ x. bit (G .struct x) * all x) = sum-same n (λ x. count x (sortOut G n .sorted) * all x) (λ x. bit (G .struct x) * all x) (λ x _. ap (λ k. k * all x) (each-once G n good x)) in
-      let e₃ : work G n ≡ sumTo n (λ x. bit (G .struct x) + bit (G .struct x) * all x) = sum-same n (λ x. bit (G .struct x) * suc (all x)) (λ x. bit (G .struct x) + bit (G .struct x) * all x) (λ x _. omega arith) in
+      let e₁ : weight all (sortOut G n .sorted) ≡ sumTo n (λ x. count x (sortOut G n .sorted) * all x) =
+      weight-sum n all (sortOut G n .sorted) (λ x m. good .below x (is-struct x m)) in
+      let e₂ : sumTo n (λ x. count x (sortOut G n .sorted) * all x) ≡ sumTo n (λ x. bit (G .struct x) * all x) =
+      sum-same n (λ x. count x (sortOut G n .sorted) * all x) (λ x. bit (G .struct x) * all x) (λ x _. ap (λ k. k * all x) (each-once G n good x)) in
+      let e₃ : work G n ≡ sumTo n (λ x. bit (G .struct x) + bit (G .struct x) * all x) =
+      sum-same n (λ x. bit (G .struct x) * suc (all x)) (λ x. bit (G .struct x) + bit (G .struct x) * all x) (λ x _. omega arith) in
       omega (arith, sum-add n (λ x. bit (G .struct x)) (λ x. bit (G .struct x) * all x))
 
   -- the order has as many places as there are struct items
   pub order-length : length (sortOut G n .sorted) ≡ sumTo n (λ x. bit (G .struct x))
   order-length =
       let o = sortOut G n .sorted in
-      weight-one o ∙ weight-sum n (λ _. 1) o (λ x m. good .below x (is-struct x m)) ∙ sum-same n (λ x. count x o * 1) (λ x. bit (G .struct x)) (λ x _. omega (arith, each-once G n good x))
+      weight-one o ∙ weight-sum n (λ _. 1) o (λ x m. good .below x (is-struct x m)) ∙ sum-same n (λ x. count x o * 1) (λ x. bit (G .struct x))
+      (λ x _. omega (arith, each-once G n good x))
 
   pub order-few : length (sortOut G n .sorted) ≤ n
   order-few = omega (arith, order-length, sum-bits n (G .struct))

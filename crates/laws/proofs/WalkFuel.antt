@@ -1,11 +1,11 @@
--- Fuel: more than the number of items not met yet is enough, and how much more does not matter.
-use mathlib.Core.Path.{_≡_, refl, sym, ap, _∙_, subst}
-use mathlib.Core.Logic.{_≢_}
+-- Fuel of the walk: more than the number of items not met yet is enough, and how much more does not matter.
+-- Assumes nothing.
+use mathlib.Core.Path.{_≡_, refl, ap, _∙_}
 use mathlib.Core.Bool.{Bool, true, false}
-use mathlib.Core.List.{List, [], _∷_}
-use Prim.Native.Nat.{ℕ, zero, suc, _*_, _+_, _≤_, _<_}
+use mathlib.Core.List.{List}
+use Prim.Native.Nat.{ℕ, zero, suc, _≤_, _<_}
 use native.Mathlib.Omega.{arith}
-use lib.Dec.{T, eqb}
+use lib.Dec.{eqb}
 use lib.ListN.{length, getD, set, length-set}
 use Rattle.laws.proofs.Counts.{eqb-true, eqb-false, fresh, fresh-set, fresh-set-le}
 use Rattle.rules.specs.Graph.{Graph}
@@ -43,7 +43,8 @@ unfolding visitOut
 visit-shrinks G zero m i = stay m
 visit-shrinks G (suc f) m i = go (visit-shrinks G f) (eqb (getD m i 0) 0)
   where
-    go : Down (visitOut f G) → (b : Bool) → Shrinks m ((elim b as (λ _. Out) [ true ↦ finished i (fieldsOut (visitOut f G) G i (G .fields i) (set m i 1)) | false ↦ seen (eqb (getD m i 0) 2) m ]) .marks)
+    go : Down (visitOut f G) → (b : Bool)
+        → Shrinks m ((elim b as (λ _. Out) [ true ↦ finished i (fieldsOut (visitOut f G) G i (G .fields i) (set m i 1)) | false ↦ seen (eqb (getD m i 0) 2) m ]) .marks)
     go ih true =
         let p = fields-shrinks (visitOut f G) ih G i (G .fields i) (set m i 1) in
         let m′ = fieldsOut (visitOut f G) G i (G .fields i) (set m i 1) .marks in
@@ -55,20 +56,24 @@ module _ (G : Graph) (n : ℕ) (good : Good G n) where
   Agree : ℕ → (List ℕ → ℕ → Out) → (List ℕ → ℕ → Out) → Type 0
   Agree c v w = (m : List ℕ) (j : ℕ) → length m ≡ n → fresh m < c → j < n → v m j ≡ w m j
 
-  field-agree : (c : ℕ) (v w : List ℕ → ℕ → Out) → Agree c v w → (i k : ℕ) → k < G .fields i → (m : List ℕ) → length m ≡ n → fresh m < c → fieldOut v G i k m ≡ fieldOut w G i k m
+  field-agree : (c : ℕ) (v w : List ℕ → ℕ → Out) → Agree c v w → (i k : ℕ) → k < G .fields i → (m : List ℕ) → length m ≡ n → fresh m < c
+      → fieldOut v G i k m ≡ fieldOut w G i k m
   unfolding fieldOut Agree
   field-agree c v w a i k l m z h = go (eqb (G .to i k) 255) refl
     where
-      go : (b : Bool) → eqb (G .to i k) 255 ≡ b → _≡_ {A = Out} (elim b as (λ _. Out) [ true ↦ still m | false ↦ flagged i k (v m (G .to i k)) ]) (elim b as (λ _. Out) [ true ↦ still m | false ↦ flagged i k (w m (G .to i k)) ])
+      go : (b : Bool) → eqb (G .to i k) 255 ≡ b
+          → _≡_ {A = Out} (elim b as (λ _. Out) [ true ↦ still m | false ↦ flagged i k (v m (G .to i k)) ]) (elim b as (λ _. Out) [ true ↦ still m | false ↦ flagged i k (w m (G .to i k)) ])
       go true e = refl
       go false e = ap (flagged i k) (a m (G .to i k) z h (good .below (G .to i k) (good .closed i k l (eqb-false (G .to i k) 255 e))))
 
-  fields-agree : (c : ℕ) (v w : List ℕ → ℕ → Out) → Agree c v w → Down w → (i k : ℕ) → k ≤ G .fields i → (m : List ℕ) → length m ≡ n → fresh m < c → fieldsOut v G i k m ≡ fieldsOut w G i k m
+  fields-agree : (c : ℕ) (v w : List ℕ → ℕ → Out) → Agree c v w → Down w → (i k : ℕ) → k ≤ G .fields i → (m : List ℕ) → length m ≡ n → fresh m < c
+      → fieldsOut v G i k m ≡ fieldsOut w G i k m
   unfolding fieldsOut
   fields-agree c v w a d i zero l m z h = refl
   fields-agree c v w a d i (suc k) l m z h =
       let p = fields-shrinks w d G i k m in
-      rw (fields-agree c v w a d i k (omega arith) m z h) (ap (join (fieldsOut w G i k m)) (field-agree c v w a i k l (fieldsOut w G i k m .marks) (p .size ∙ z) (omega (arith, p .less))))
+      rw (fields-agree c v w a d i k (omega arith) m z h)
+      (ap (join (fieldsOut w G i k m)) (field-agree c v w a i k l (fieldsOut w G i k m .marks) (p .size ∙ z) (omega (arith, p .less))))
 
   pub fuel : (f h : ℕ) (m : List ℕ) (i : ℕ) → length m ≡ n → i < n → fresh m < f → fresh m < h → visitOut f G m i ≡ visitOut h G m i
   unfolding visitOut Agree

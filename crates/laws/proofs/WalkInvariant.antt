@@ -1,18 +1,20 @@
--- What the walk keeps. A state is the marks m, the order so far o, and the number c of codes so far.
+-- What the walk keeps, visit by visit. A state is the marks m, the order so far o, and the number c of messages so far.
+-- Assumes nothing.
 use mathlib.Core.Path.{_≡_, refl, sym, ap, _∙_, subst}
 use mathlib.Core.Logic.{_≢_, _⊎_, inl, inr}
 use mathlib.Core.Bool.{Bool, true, false, _&&_}
 use mathlib.Core.List.{List, [], _∷_, _++_, append-nil, append-assoc}
-use Prim.Native.Nat.{ℕ, zero, suc, pred, _+_, _*_, _≤_, _<_}
+use Prim.Native.Nat.{ℕ, zero, suc, pred, _+_, _≤_, _<_}
 use native.Mathlib.Omega.{arith}
 use native.Mathlib.Nat.{add-assoc, add-zero}
 use lib.Dec.{T, eqb}
 use lib.ListN.{length, getD, set, replicate, length-set, length-append, length-replicate}
 use lib.Seq.{getD-set-same, getD-set-other}
 use Rattle.rules.specs.Count.{count, place}
-use Rattle.laws.proofs.Counts.{Eq?, same, other, eq?, eqb-true, eqb-false, count-snoc-same, count-snoc-other, place-lt, place-append, place-new, fresh, fresh-set, fresh-set-le, fresh-zeros}
+use Rattle.laws.proofs.Counts.{Eq?, same, other, eq?, eqb-true, eqb-false, count-snoc-same, count-snoc-other, place-lt, place-append, place-new, fresh}
+use Rattle.laws.proofs.Counts.{fresh-set, fresh-set-le, fresh-zeros}
 use Rattle.rules.specs.Graph.{Graph}
-use Rattle.laws.proofs.Chains.{Good, Edge, Chain, edge, link, Cycle}
+use Rattle.laws.proofs.Chains.{Good, Edge, Chain, edge, Cycle}
 use Rattle.laws.proofs.ChainLaws.{snoc}
 use Rattle.rules.specs.Walk.{Out, still, join, blame, flagged, seen, finished, fieldOut, fieldsOut, visitOut, itemOut, itemsOut}
 use Rattle.rules.specs.Diagnostics.{say}
@@ -60,7 +62,8 @@ pub record Fielded (G : Graph) (n : ℕ) (At : ℕ → Type 0) (m o : List ℕ) 
   pub fails : a .ok ≡ false → Cycle G
 
 abbrev pub Visitor : Graph → ℕ → ℕ → (List ℕ → ℕ → Out) → Type 0
-Visitor G n f v = (m o : List ℕ) (c i : ℕ) → Inv G n m o c → fresh m < f → T (G .struct i) → ((x : ℕ) → getD m x 0 ≡ 1 → Chain G x i) → Visited G n m o c i (v m i)
+Visitor G n f v =
+    (m o : List ℕ) (c i : ℕ) → Inv G n m o c → fresh m < f → T (G .struct i) → ((x : ℕ) → getD m x 0 ≡ 1 → Chain G x i) → Visited G n m o c i (v m i)
 
 -- the first k items are walked
 pub record Walked (G : Graph) (n k : ℕ) (a : Out) : Type 0 where
@@ -93,7 +96,8 @@ module _ (G : Graph) (n : ℕ) where
       go (inr e) = absurd (omega (arith, e .1))
 
   pub onward : {m m′ m″ o′ o″ : List ℕ} {c c′ c″ : ℕ} → Post G n m c m′ o′ c′ → Post G n m′ c′ m″ o″ c″ → Post G n m c m″ o″ c″
-  onward {m} {m′} {m″} p q = record { inv = q .inv; moved = λ x. go x (p .moved x) (q .moved x); less = omega (arith, p .less, q .less); grow = omega (arith, p .grow, q .grow) }
+  onward {m} {m′} {m″} p q =
+      record { inv = q .inv; moved = λ x. go x (p .moved x) (q .moved x); less = omega (arith, p .less, q .less); grow = omega (arith, p .grow, q .grow) }
     where
       go : (x : ℕ) → Moved m m′ x → Moved m′ m″ x → Moved m m″ x
       go x (inl a) (inl b) = inl (b ∙ a)
@@ -102,8 +106,10 @@ module _ (G : Graph) (n : ℕ) where
       go x (inr a) (inr b) = absurd (omega (arith, a .1, b .0))
 
   -- one part of the walk, and then another
-  pub then : (m o : List ℕ) (c : ℕ) (a b : Out) → After G n m o c a → After G n (a .marks) (o ++ a .sorted) (c + length (a .errors)) b → After G n m o c (join a b)
-  then m o c a b p q = rw (length-append (a .errors) (b .errors), ← append-assoc o (a .sorted) (b .sorted), ← add-assoc c (length (a .errors)) (length (b .errors))) (onward p q)
+  pub then : (m o : List ℕ) (c : ℕ) (a b : Out) → After G n m o c a → After G n (a .marks) (o ++ a .sorted) (c + length (a .errors)) b
+      → After G n m o c (join a b)
+  then m o c a b p q =
+      rw (length-append (a .errors) (b .errors), ← append-assoc o (a .sorted) (b .sorted), ← add-assoc c (length (a .errors)) (length (b .errors))) (onward p q)
 
   and-false : (a b : Bool) → (a ≡ false → Cycle G) → (b ≡ false → Cycle G) → (a && b) ≡ false → Cycle G
   and-false true b p q e = q e
@@ -111,7 +117,8 @@ module _ (G : Graph) (n : ℕ) where
 
   -- a code is sorted where a cycle is known
   more : {m o : List ℕ} {c : ℕ} → Inv G n m o c → Cycle G → Inv G n m o (suc c)
-  more h y = record { size = h .size; kinds = h .kinds; listed = h .listed; structs = h .structs; edges = h .edges; clean = λ e. absurd (omega arith); dirty = λ _. y }
+  more h y =
+      record { size = h .size; kinds = h .kinds; listed = h .listed; structs = h .structs; edges = h .edges; clean = λ e. absurd (omega arith); dirty = λ _. y }
 
   blamed : (m o : List ℕ) (c i j k : ℕ) (a : Out) → Visited G n m o c j a → After G n m o c (flagged i k a)
   blamed m o c i j k a h = go (a .ok) refl
@@ -124,16 +131,30 @@ module _ (G : Graph) (n : ℕ) where
 
   module _ (good : Good G n) (f : ℕ) (v : List ℕ → ℕ → Out) (hv : Visitor G n f v) (i : ℕ) where
     -- one field
-    field : (k : ℕ) → k < G .fields i → (m o : List ℕ) (c : ℕ) → Inv G n m o c → fresh m < f → ((x : ℕ) → getD m x 0 ≡ 1 → (j : ℕ) → Edge G i j → Chain G x j) → Fielded G n (λ k′. k′ ≡ k) m o c i (fieldOut v G i k m)
+    field : (k : ℕ) → k < G .fields i → (m o : List ℕ) (c : ℕ) → Inv G n m o c → fresh m < f → ((x : ℕ) → getD m x 0 ≡ 1 → (j : ℕ) → Edge G i j → Chain G x j)
+        → Fielded G n (λ k′. k′ ≡ k) m o c i (fieldOut v G i k m)
     unfolding fieldOut
     field k l m o c h less reach = go (eqb (G .to i k) 255) refl
       where
-        go : (b : Bool) → eqb (G .to i k) 255 ≡ b → Fielded G n (λ k′. k′ ≡ k) m o c i (elim b as (λ _. Out) [ true ↦ still m | false ↦ flagged i k (v m (G .to i k)) ])
-        go true e = record { post = stay-after m o c (still m) refl refl refl h; here = λ k′ p ne. absurd (nowhere k′ p ne); done = λ _ k′ p ne. absurd (nowhere k′ p ne); fails = λ b. let z : _≡_ {A = ℕ} 0 1 = cc in absurd (omega arith) }
+        go : (b : Bool) → eqb (G .to i k) 255 ≡ b
+            → Fielded G n (λ k′. k′ ≡ k) m o c i (elim b as (λ _. Out) [ true ↦ still m | false ↦ flagged i k (v m (G .to i k)) ])
+        go true e =
+            record {
+              post = stay-after m o c (still m) refl refl refl h;
+              here = λ k′ p ne. absurd (nowhere k′ p ne);
+              done = λ _ k′ p ne. absurd (nowhere k′ p ne);
+              fails = λ b. let z : _≡_ {A = ℕ} 0 1 = cc in absurd (omega arith);
+            }
           where
             nowhere : (k′ : ℕ) → k′ ≡ k → G .to i k′ ≢ 255 → ⊥
             nowhere k′ p ne = ne (ap (G .to i) p ∙ eqb-true (G .to i k) 255 e)
-        go false e = record { post = blamed m o c i (G .to i k) k a w; here = λ k′ p ne. rw p (w .here); done = λ z k′ p ne. rw p (met z (a .ok) refl); fails = w .fails }
+        go false e =
+            record {
+              post = blamed m o c i (G .to i k) k a w;
+              here = λ k′ p ne. rw p (w .here);
+              done = λ z k′ p ne. rw p (met z (a .ok) refl);
+              fails = w .fails;
+            }
           where
             a : Out
             a = v m (G .to i k)
@@ -142,7 +163,9 @@ module _ (G : Graph) (n : ℕ) where
             ne = eqb-false (G .to i k) 255 e
 
             w : Visited G n m o c (G .to i k) a
-            w = let d : Edge G i (G .to i k) = record { place = k; is-field = l; leads = refl; is-item = ne } in hv m o c (G .to i k) h less (good .closed i k l ne) (λ x q. reach x q (G .to i k) d)
+            w =
+                let d : Edge G i (G .to i k) = record { place = k; is-field = l; leads = refl; is-item = ne } in
+                hv m o c (G .to i k) h less (good .closed i k l ne) (λ x q. reach x q (G .to i k) d)
 
             met : c + length (a .errors ++ blame (a .ok) i k) ≡ 0 → (b : Bool) → a .ok ≡ b → 1 < getD (a .marks) (G .to i k) 0
             met z true q = w .done q
@@ -151,16 +174,31 @@ module _ (G : Graph) (n : ℕ) where
                 absurd (omega (arith, length-append (a .errors) (say 2 (F i k))))
 
     -- the first fields
-    fields : (k : ℕ) → k ≤ G .fields i → (m o : List ℕ) (c : ℕ) → Inv G n m o c → fresh m < f → ((x : ℕ) → getD m x 0 ≡ 1 → (j : ℕ) → Edge G i j → Chain G x j) → Fielded G n (λ k′. k′ < k) m o c i (fieldsOut v G i k m)
+    fields : (k : ℕ) → k ≤ G .fields i → (m o : List ℕ) (c : ℕ) → Inv G n m o c → fresh m < f
+        → ((x : ℕ) → getD m x 0 ≡ 1 → (j : ℕ) → Edge G i j → Chain G x j) → Fielded G n (λ k′. k′ < k) m o c i (fieldsOut v G i k m)
     unfolding fieldsOut
-    fields zero l m o c h less reach = record { post = stay-after m o c (still m) refl refl refl h; here = λ k′ p ne. absurd (omega arith); done = λ _ k′ p ne. absurd (omega arith); fails = λ b. let z : _≡_ {A = ℕ} 0 1 = cc in absurd (omega arith) }
+    fields zero l m o c h less reach =
+        record {
+          post = stay-after m o c (still m) refl refl refl h;
+          here = λ k′ p ne. absurd (omega arith);
+          done = λ _ k′ p ne. absurd (omega arith);
+          fails = λ b. let z : _≡_ {A = ℕ} 0 1 = cc in absurd (omega arith);
+        }
     fields (suc k) l m o c h less reach = both (fieldsOut v G i k m) (fields k (omega arith) m o c h less reach)
       where
         both : (a : Out) → Fielded G n (λ k′. k′ < k) m o c i a → Fielded G n (λ k′. k′ < suc k) m o c i (join a (fieldOut v G i k (a .marks)))
-        both a p = add (fieldOut v G i k (a .marks)) (field k l (a .marks) (o ++ a .sorted) (c + length (a .errors)) (p .post .inv) (omega (arith, p .post .less)) (λ x q. reach x (opened (p .post) x q)))
+        both a p =
+            add (fieldOut v G i k (a .marks)) (field k l (a .marks) (o ++ a .sorted) (c + length (a .errors)) (p .post .inv) (omega (arith, p .post .less)) (λ x q. reach x (opened (p .post) x q)))
           where
-            add : (b : Out) → Fielded G n (λ k′. k′ ≡ k) (a .marks) (o ++ a .sorted) (c + length (a .errors)) i b → Fielded G n (λ k′. k′ < suc k) m o c i (join a b)
-            add b q = record { post = then m o c a b (p .post) (q .post); here = λ k′ s ne. at-here k′ s ne (eq? k′ k); done = λ z k′ s ne. at-done z k′ s ne (eq? k′ k); fails = and-false (a .ok) (b .ok) (p .fails) (q .fails) }
+            add : (b : Out) → Fielded G n (λ k′. k′ ≡ k) (a .marks) (o ++ a .sorted) (c + length (a .errors)) i b
+                → Fielded G n (λ k′. k′ < suc k) m o c i (join a b)
+            add b q =
+                record {
+                  post = then m o c a b (p .post) (q .post);
+                  here = λ k′ s ne. at-here k′ s ne (eq? k′ k);
+                  done = λ z k′ s ne. at-done z k′ s ne (eq? k′ k);
+                  fails = and-false (a .ok) (b .ok) (p .fails) (q .fails);
+                }
               where
                 at-here : (k′ : ℕ) → k′ < suc k → G .to i k′ ≢ 255 → Eq? k′ k → 0 < getD (b .marks) (G .to i k′) 0
                 at-here k′ s ne (same _ e) = q .here k′ e ne
@@ -171,12 +209,22 @@ module _ (G : Graph) (n : ℕ) where
 
                 at-done : c + length (a .errors ++ b .errors) ≡ 0 → (k′ : ℕ) → k′ < suc k → G .to i k′ ≢ 255 → Eq? k′ k → 1 < getD (b .marks) (G .to i k′) 0
                 at-done z k′ s ne (same _ e) = q .done (none z) k′ e ne
-                at-done z k′ s ne (other _ e) = let u = p .done (omega (arith, none z)) k′ (omega arith) ne in omega (arith, kept (q .post) (G .to i k′) (omega arith))
+                at-done z k′ s ne (other _ e) =
+                    let u = p .done (omega (arith, none z)) k′ (omega arith) ne in omega (arith, kept (q .post) (G .to i k′) (omega arith))
 
   module _ (good : Good G n) where
     -- an item that is not met yet is marked
     pushed : (m o : List ℕ) (c i : ℕ) → Inv G n m o c → getD m i 0 ≡ 0 → T (G .struct i) → Inv G n (set m i 1) o c
-    pushed m o c i h z t = record { size = length-set m i 1 ∙ h .size; kinds = λ x. at-kinds x (eq? x i); listed = λ x. at-listed x (eq? x i); structs = λ x. at-struct x (eq? x i); edges = h .edges; clean = h .clean; dirty = h .dirty }
+    pushed m o c i h z t =
+        record {
+          size = length-set m i 1 ∙ h .size;
+          kinds = λ x. at-kinds x (eq? x i);
+          listed = λ x. at-listed x (eq? x i);
+          structs = λ x. at-struct x (eq? x i);
+          edges = h .edges;
+          clean = h .clean;
+          dirty = h .dirty;
+        }
       where
         fits : i < length m
         fits = omega (arith, h .size, good .below i t)
@@ -229,7 +277,16 @@ module _ (G : Graph) (n : ℕ) where
           rw (place-append o′ (i ∷ []) x l, place-append o′ (i ∷ []) y (omega arith)) e
 
       popped : Inv G n (set m′ i 2) (o′ ++ (i ∷ [])) c′
-      popped = record { size = length-set m′ i 2 ∙ p .inv .size; kinds = λ x. at-kinds x (eq? x i); listed = λ x. at-listed x (eq? x i); structs = λ x. at-struct x (eq? x i); edges = λ x y. at-edges x y (eq? x i); clean = λ d x y. at-clean d x y (eq? x i); dirty = p .inv .dirty }
+      popped =
+          record {
+            size = length-set m′ i 2 ∙ p .inv .size;
+            kinds = λ x. at-kinds x (eq? x i);
+            listed = λ x. at-listed x (eq? x i);
+            structs = λ x. at-struct x (eq? x i);
+            edges = λ x y. at-edges x y (eq? x i);
+            clean = λ d x y. at-clean d x y (eq? x i);
+            dirty = p .inv .dirty;
+          }
         where
           at-kinds : (x : ℕ) → Eq? x i → getD (set m′ i 2) x 0 ≤ 2
           at-kinds x (same _ s) = rw (s, getD-set-same m′ i 2 0 fits′) (omega arith)
@@ -283,8 +340,10 @@ module _ (G : Graph) (n : ℕ) where
       where
         after : (a : Out) → Fielded G n (λ k. k < G .fields i) (set m i 1) o c i a → getD m i 0 ≡ 0 → Visited G n m o c i (finished i a)
         after a p e =
-            let q : Post G n m c (set (a .marks) i 2) ((o ++ a .sorted) ++ (i ∷ [])) (c + length (a .errors)) = left m o c i h e si reach (a .marks) (o ++ a .sorted) (c + length (a .errors)) (p .post) (p .here) (p .done) in
-            let t : getD (set (a .marks) i 2) i 0 ≡ 2 = two m o c i h e si reach (a .marks) (o ++ a .sorted) (c + length (a .errors)) (p .post) (p .here) (p .done) in
+            let q : Post G n m c (set (a .marks) i 2) ((o ++ a .sorted) ++ (i ∷ [])) (c + length (a .errors)) =
+            left m o c i h e si reach (a .marks) (o ++ a .sorted) (c + length (a .errors)) (p .post) (p .here) (p .done) in
+            let t : getD (set (a .marks) i 2) i 0 ≡ 2 =
+            two m o c i h e si reach (a .marks) (o ++ a .sorted) (c + length (a .errors)) (p .post) (p .here) (p .done) in
             record { post = rw append-assoc at q; here = omega arith; done = λ _. omega arith; fails = p .fails }
 
         onto : (x j : ℕ) → Edge G i j → Eq? x i → getD (set m i 1) x 0 ≡ 1 → Chain G x j
@@ -296,8 +355,20 @@ module _ (G : Graph) (n : ℕ) where
         go ih zero e =
             let q : suc (fresh (set m i 1)) ≡ fresh m = fresh-set m i 0 (omega (arith, h .size, good .below i si)) e in
             after (fieldsOut (visitOut f G) G i (G .fields i) (set m i 1)) (fields good f (visitOut f G) ih i (G .fields i) (omega arith) (set m i 1) o c (pushed m o c i h e si) (omega arith) (λ x s j d. onto x j d (eq? x i) s)) e
-        go ih (suc zero) e = record { post = stay-after m o c (seen false m) refl refl refl h; here = omega arith; done = λ b. let w : _≡_ {A = ℕ} 0 1 = cc in absurd (omega arith); fails = λ _. (i, reach i e) }
-        go ih (suc (suc zero)) e = record { post = stay-after m o c (seen true m) refl refl refl h; here = omega arith; done = λ _. omega arith; fails = λ b. let w : _≡_ {A = ℕ} 0 1 = cc in absurd (omega arith) }
+        go ih (suc zero) e =
+            record {
+              post = stay-after m o c (seen false m) refl refl refl h;
+              here = omega arith;
+              done = λ b. let w : _≡_ {A = ℕ} 0 1 = cc in absurd (omega arith);
+              fails = λ _. (i, reach i e);
+            }
+        go ih (suc (suc zero)) e =
+            record {
+              post = stay-after m o c (seen true m) refl refl refl h;
+              here = omega arith;
+              done = λ _. omega arith;
+              fails = λ b. let w : _≡_ {A = ℕ} 0 1 = cc in absurd (omega arith);
+            }
         go ih (suc (suc (suc k))) e = absurd (omega (arith, h .kinds i))
 
     zeros : (k x : ℕ) → count 0 [] ≡ getD (replicate k 0) x 0
@@ -306,30 +377,58 @@ module _ (G : Graph) (n : ℕ) where
     zeros (suc k) (suc x) = zeros k x
 
     started : Inv G n (replicate n 0) [] 0
-    started = record { size = length-replicate n 0; kinds = λ x. omega (arith, zeros n x); listed = λ x. omega (arith, zeros n x); structs = λ x m. absurd (omega (arith, zeros n x)); edges = λ x y m. absurd (omega arith); clean = λ _ x y m. absurd (omega arith); dirty = λ m. absurd (omega arith) }
+    started =
+        record {
+          size = length-replicate n 0;
+          kinds = λ x. omega (arith, zeros n x);
+          listed = λ x. omega (arith, zeros n x);
+          structs = λ x m. absurd (omega (arith, zeros n x));
+          edges = λ x y m. absurd (omega arith);
+          clean = λ _ x y m. absurd (omega arith);
+          dirty = λ m. absurd (omega arith);
+        }
 
     -- the first k items
     pub walked : (f : ℕ) → n < f → (k : ℕ) → Walked G n k (itemsOut f G k (replicate n 0))
     unfolding itemsOut itemOut
-    walked f l zero = record { post = stay-after (replicate n 0) [] 0 (still (replicate n 0)) refl refl refl started; ends = λ x. inl (sym (zeros n x)); all = λ x q. absurd (omega arith) }
+    walked f l zero =
+        record {
+          post = stay-after (replicate n 0) [] 0 (still (replicate n 0)) refl refl refl started;
+          ends = λ x. inl (sym (zeros n x));
+          all = λ x q. absurd (omega arith);
+        }
     walked f l (suc k) = both (itemsOut f G k (replicate n 0)) (walked f l k) (G .struct k) refl
       where
-        both : (a : Out) → Walked G n k a → (b : Bool) → G .struct k ≡ b → Walked G n (suc k) (join a (elim b as (λ _. Out) [ true ↦ visitOut f G (a .marks) k | false ↦ still (a .marks) ]))
-        both a w false e = record { post = then (replicate n 0) [] 0 a (still (a .marks)) (w .post) (stay-after (a .marks) (a .sorted) (0 + length (a .errors)) (still (a .marks)) refl refl refl (w .post .inv)); ends = w .ends; all = λ x q. at-all x q (eq? x k) }
+        both : (a : Out) → Walked G n k a → (b : Bool) → G .struct k ≡ b
+            → Walked G n (suc k) (join a (elim b as (λ _. Out) [ true ↦ visitOut f G (a .marks) k | false ↦ still (a .marks) ]))
+        both a w false e =
+            record {
+              post = then (replicate n 0) [] 0 a (still (a .marks)) (w .post)
+                  (stay-after (a .marks) (a .sorted) (0 + length (a .errors)) (still (a .marks)) refl refl refl (w .post .inv));
+              ends = w .ends;
+              all = λ x q. at-all x q (eq? x k);
+            }
           where
             at-all : (x : ℕ) → x < suc k → Eq? x k → T (G .struct x) → getD (a .marks) x 0 ≡ 2
             at-all x q (same _ s) t = absurd (subst T e (subst (λ (j : ℕ). T (G .struct j)) s t))
             at-all x q (other _ s) t = w .all x (omega arith) t
-        both a w true e = add (visitOut f G (a .marks) k) (visited f (a .marks) (a .sorted) (0 + length (a .errors)) k (w .post .inv) (omega (arith, w .post .less, fresh-zeros n)) (subst T (sym e) tt) (λ x q. absurd (none-open x (w .ends x) q)))
+        both a w true e =
+            add (visitOut f G (a .marks) k) (visited f (a .marks) (a .sorted) (0 + length (a .errors)) k (w .post .inv) (omega (arith, w .post .less, fresh-zeros n)) (subst T (sym e) tt) (λ x q. absurd (none-open x (w .ends x) q)))
           where
             none-open : (x : ℕ) → (getD (a .marks) x 0 ≡ 0) ⊎ (getD (a .marks) x 0 ≡ 2) → getD (a .marks) x 0 ≡ 1 → ⊥
             none-open x (inl q) r = omega arith
             none-open x (inr q) r = omega arith
 
             add : (b : Out) → Visited G n (a .marks) (a .sorted) (0 + length (a .errors)) k b → Walked G n (suc k) (join a b)
-            add b v = record { post = then (replicate n 0) [] 0 a b (w .post) (v .post); ends = λ x. at-ends x (w .ends x) (v .post .moved x); all = λ x q. at-all x q (eq? x k) }
+            add b v =
+                record {
+                  post = then (replicate n 0) [] 0 a b (w .post) (v .post);
+                  ends = λ x. at-ends x (w .ends x) (v .post .moved x);
+                  all = λ x q. at-all x q (eq? x k);
+                }
               where
-                at-ends : (x : ℕ) → (getD (a .marks) x 0 ≡ 0) ⊎ (getD (a .marks) x 0 ≡ 2) → Moved (a .marks) (b .marks) x → (getD (b .marks) x 0 ≡ 0) ⊎ (getD (b .marks) x 0 ≡ 2)
+                at-ends : (x : ℕ) → (getD (a .marks) x 0 ≡ 0) ⊎ (getD (a .marks) x 0 ≡ 2) → Moved (a .marks) (b .marks) x
+                    → (getD (b .marks) x 0 ≡ 0) ⊎ (getD (b .marks) x 0 ≡ 2)
                 at-ends x (inl p) (inl q) = inl (q ∙ p)
                 at-ends x (inr p) (inl q) = inr (q ∙ p)
                 at-ends x p (inr q) = inr (q .1)

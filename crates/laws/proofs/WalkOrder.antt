@@ -1,9 +1,10 @@
--- Rule 3 of the order and of the cyclic diagnostics, over chains.
-use mathlib.Core.Path.{_≡_, refl, sym, ap, _∙_, subst}
-use mathlib.Core.Logic.{_≢_, _⊎_, inl, inr, _↔_}
+-- The walk's order has each struct item once, after what it holds where no chain returns, and a message exactly where one does.
+-- Assumes nothing.
+use mathlib.Core.Path.{_≡_, refl, sym, _∙_, subst}
+use mathlib.Core.Logic.{_⊎_, inl, inr, _↔_}
 use mathlib.Core.Bool.{Bool, true, false}
 use mathlib.Core.List.{List, [], _∷_}
-use Prim.Native.Nat.{ℕ, zero, suc, pred, _+_, _≤_, _<_}
+use Prim.Native.Nat.{ℕ, suc, _+_, _<_}
 use native.Mathlib.Omega.{arith}
 use lib.Dec.{T}
 use lib.ListN.{length, getD}
@@ -12,7 +13,7 @@ use Rattle.rules.specs.Count.{count, place}
 use Rattle.rules.specs.Graph.{Graph}
 use Rattle.laws.proofs.Chains.{Good, Edge, Chain, edge, link, Cycle}
 use Rattle.rules.specs.declared.Diagnostic.{Diagnostic}
-use Rattle.rules.specs.Walk.{Out, itemsOut, sortOut}
+use Rattle.rules.specs.Walk.{sortOut}
 use Rattle.laws.proofs.WalkInvariant.{Inv, Earlier, Walked, walked}
 
 -- every edge of a struct item leads to one that stands earlier
@@ -60,7 +61,8 @@ module _ (G : Graph) (n : ℕ) (good : Good G n) where
 
   -- T2: every struct item stands after all that it holds exactly where no chain returns to its start
   pub in-order : InOrder G (sortOut G n .sorted) ↔ (Cycle G → ⊥)
-  in-order = (λ h c. omega (arith, chain-earlier (sortOut G n .sorted) h (c .1) (chain-end (c .1))), λ acyclic i j si e. go acyclic i j e (edge-or-back i j si e))
+  in-order =
+      (λ h c. omega (arith, chain-earlier (sortOut G n .sorted) h (c .1) (chain-end (c .1))), λ acyclic i j si e. go acyclic i j e (edge-or-back i j si e))
     where
       go : (Cycle G → ⊥) → (i j : ℕ) → Edge G i j → Earlier (sortOut G n .sorted) j i ⊎ Chain G j i → Earlier (sortOut G n .sorted) j i
       go acyclic i j e (inl q) = q

@@ -2,3 +2,4 @@ pub mod Skip
 pub mod Reach
 pub mod Visits
 pub mod LifetimeMut
+pub mod Tells

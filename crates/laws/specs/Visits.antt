@@ -6,7 +6,7 @@ use mathlib.Core.List.{List}
 use Rattle.rules.specs.Diagnostics.{bit}
 use Rattle.rules.specs.Names.{_∋_}
 use Rattle.rules.specs.View.{Ident, is, rowName, Struct, itemIs, fieldCount, field}
-use Rattle.rules.specs.Types.{Types, typesOf}
+use Rattle.rules.specs.Types.{typesOf}
 
 module _ (s : List ℕ) where
   -- field j of item i is a plain name, and a struct bears it

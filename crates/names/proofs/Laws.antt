@@ -48,7 +48,9 @@ module _ (w : Words) (long : length w ≡ 4) (n : ℕ) where
   unfolding add
   insert-none h = sym (set-out w (n / 64) (bitOr (getD w (n / 64) 0) (2 ^ (n % 64))) (omega arith))
 
-pub size-four : (w : Words) → length w ≡ 4 → {a b c d : ℕ} → Ones (getD w 0 0) a → Ones (getD w 1 0) b → Ones (getD w 2 0) c → Ones (getD w 3 0) d → a + b + c + d ≡ size w
+pub size-four :
+    (w : Words) → length w ≡ 4 → {a b c d : ℕ} → Ones (getD w 0 0) a → Ones (getD w 1 0) b → Ones (getD w 2 0) c → Ones (getD w 3 0) d
+    → a + b + c + d ≡ size w
 unfolding size
 size-four (w ∷ x ∷ y ∷ z ∷ []) l a b c d = omega (arith, a .count, b .count, c .count, d .count)
 size-four [] l a b c d = absurd (omega arith)

@@ -3,10 +3,15 @@
 ghost use mathlib.Core.Path.{_≡_};
 ghost use Rattle.rules.specs.Format.{pairAt, offset};
 
+mod fresh_rows;
 pub mod functions;
+mod item_steps;
 pub mod items;
 pub mod logic;
+pub mod read;
+mod row_steps;
 pub mod rows;
+mod steps;
 
 // The pair at a place, low byte first.
 pub fn pair_at(s: &[u8], at: usize) -> u16

@@ -11,10 +11,14 @@ use borrow.Author.Tests.{eqb-true}
 use Rattle.rules.specs.declared.Step.{Step}
 use Rattle.rules.specs.declared.Step.the-variants.{Next}
 use Rattle.rules.specs.Base.{if_then_else_}
-use Rattle.rules.specs.Format.{after, pairAt, offset, limited, function, itemKinds, itemOf, item, Accepted}
-use Rattle.rules.specs.View.{Ident, rows, kind, Struct, Enum, CxxType, RustType, CxxFunction, RustFunction, TypeAlias, Impl, items, itemPlace, itemKind, itemIs, isType, isFunction, itemName, past, entry, lifetimesPlace, lifetimeCount, lifetime, derivesPlace, deriveCount, derive, rest, fieldCount, field, enumRepr, enumVariants, enumDefaults, receiverPlace, form, selfType, returnPlace, return, argCount, arg, implRow}
-use Rattle.laws.proofs.Accepted.Steps.{after-is, Reads, _then_, nothing-read, RowOrNone, ListAt, HeadAt, ReceiverAt, limited-reads, orNone-reads, list-reads, head-reads, repr-reads, variants-reads, receiver-reads}
-use Rattle.laws.proofs.Accepted.Sheet.{Bodies, bodies-of}
+use Rattle.rules.specs.Format.{pairAt, offset, limited, function, itemKinds, itemOf, item, Accepted}
+use Rattle.rules.specs.View.{Ident, rows, kind, Struct, Enum, CxxType, RustType, CxxFunction, RustFunction, TypeAlias, Impl, items, itemPlace, itemKind}
+use Rattle.rules.specs.View.{itemIs, isType, isFunction, itemName, past, lifetimesPlace, lifetimeCount, lifetime, derivesPlace, deriveCount, derive, rest}
+use Rattle.rules.specs.View.{fieldCount, field, enumRepr, enumVariants, enumDefaults, receiverPlace, form, selfType, returnPlace, return, argCount, arg}
+use Rattle.rules.specs.View.{implRow}
+use Rattle.laws.proofs.Accepted.Steps.{after-is, Reads, _then_, nothing-read, RowOrNone, ListAt, HeadAt, ReceiverAt, limited-reads, orNone-reads}
+use Rattle.laws.proofs.Accepted.Steps.{list-reads, head-reads, repr-reads, variants-reads, receiver-reads}
+use Rattle.laws.proofs.Accepted.Sheet.{bodies-of}
 use Rattle.laws.proofs.Tests.{never, or-is}
 
 module _ (s : List ℕ) (i : ℕ) where
@@ -65,7 +69,8 @@ module _ (s : List ℕ) (i : ℕ) where
     pub struct : itemKind s i ≡ Struct → next ≡ itemPlace s i + 10 + 2 * lifetimeCount s i + 2 * deriveCount s i + 2 * fieldCount s i
     pub enum : itemKind s i ≡ Enum → next ≡ itemPlace s i + 16 + 2 * lifetimeCount s i + 2 * deriveCount s i
     pub opaque : (itemKind s i ≡ CxxType) ⊎ (itemKind s i ≡ RustType) → next ≡ itemPlace s i + 10 + 2 * lifetimeCount s i + 2 * deriveCount s i
-    pub function : (itemKind s i ≡ CxxFunction) ⊎ (itemKind s i ≡ RustFunction) → next ≡ itemPlace s i + 14 + 2 * lifetimeCount s i + 2 * form s i + 2 * argCount s i
+    pub function : (itemKind s i ≡ CxxFunction) ⊎ (itemKind s i ≡ RustFunction)
+        → next ≡ itemPlace s i + 14 + 2 * lifetimeCount s i + 2 * form s i + 2 * argCount s i
     pub alias : itemKind s i ≡ TypeAlias → next ≡ itemPlace s i + 8 + 2 * lifetimeCount s i + 2 * deriveCount s i
     pub impl : itemKind s i ≡ Impl → next ≡ itemPlace s i + 8 + 2 * lifetimeCount s i
     pub include : itemKind s i ≡ 0 → next ≡ itemPlace s i + 2
@@ -254,7 +259,14 @@ module _ (s : List ℕ) (acc : Accepted s) (i : ℕ) (l : i < items s) where
 
   pub item-of : ItemOf s i
   item-of =
-      record { known = item-steps .0; as-type = type-is; as-struct = struct-is; as-enum = enum-is; as-function = λ t. function-is (function-kinds t); as-impl = impl-is }
+      record {
+        known = item-steps .0;
+        as-type = type-is;
+        as-struct = struct-is;
+        as-enum = enum-is;
+        as-function = λ t. function-is (function-kinds t);
+        as-impl = impl-is;
+      }
 
   -- ## How long it is
 
@@ -294,11 +306,13 @@ module _ (s : List ℕ) (acc : Accepted s) (i : ℕ) (l : i < items s) where
   unfolding itemOf itemKinds
   alias-size e = omega (arith, by-kind 7 (head-reads s) refl e .1 ∙ head-ends, rest-is (kind-type s i 7 e))
 
-  function-size : (itemKind s i ≡ CxxFunction) ⊎ (itemKind s i ≡ RustFunction) → ending ≡ itemPlace s i + 14 + 2 * lifetimeCount s i + 2 * form s i + 2 * argCount s i
+  function-size : (itemKind s i ≡ CxxFunction) ⊎ (itemKind s i ≡ RustFunction)
+      → ending ≡ itemPlace s i + 14 + 2 * lifetimeCount s i + 2 * form s i + 2 * argCount s i
   unfolding itemOf itemKinds past lifetimeCount form argCount receiverPlace returnPlace from
   function-size = by
     where
-      of : (k : ℕ) → typeKind k ≡ false → itemKind s i ≡ k → FunctionAt s (rows s) from ending → ending ≡ itemPlace s i + 14 + 2 * lifetimeCount s i + 2 * form s i + 2 * argCount s i
+      of : (k : ℕ) → typeKind k ≡ false → itemKind s i ≡ k → FunctionAt s (rows s) from ending
+          → ending ≡ itemPlace s i + 14 + 2 * lifetimeCount s i + 2 * form s i + 2 * argCount s i
       of k n e h =
           let z : itemPlace s i + 2 + 4 ≡ itemPlace s i + 6 = omega arith in
           let there : h .return ≡ past s (itemPlace s i + 6) + 2 + 2 * pairAt s (past s (itemPlace s i + 6)) = rw z at (h .there) in

@@ -1,7 +1,7 @@
 -- The type rows of an accepted sheet, by kinds: each refers to smaller rows only.
 -- Assumes nothing.
 use Prim.Native.Nat.{ℕ, zero, suc, _+_, _*_, _≤_, _<_}
-use mathlib.Core.Path.{_≡_, refl, sym, ap, _∙_}
+use mathlib.Core.Path.{_≡_, refl, sym, _∙_}
 use mathlib.Core.List.{List, [], _∷_}
 use mathlib.Core.Bool.{Bool, true, false}
 use native.Mathlib.Omega.{arith}
@@ -10,10 +10,10 @@ use borrow.Author.Tests.{lt-leb, le-leb}
 use Rattle.rules.specs.declared.Step.{Step}
 use Rattle.rules.specs.declared.Step.the-variants.{Next}
 use Rattle.rules.specs.Base.{if_then_else_}
-use Rattle.rules.specs.Format.{after, end, pairAt, offset, limited, flagged, signature, rowKinds, bodyOf, row, Accepted}
-use Rattle.rules.specs.View.{Ident, Ref, Ptr, SliceRef, Array, Fn, rows, kind, rowName, rowFlags, inner, fnReturn, fnArgCount, fnArg, past}
+use Rattle.rules.specs.Format.{end, pairAt, offset, limited, flagged, signature, rowKinds, bodyOf, row, Accepted}
+use Rattle.rules.specs.View.{Ident, Ref, Ptr, SliceRef, Fn, rows, kind, rowName, rowFlags, inner, fnReturn, fnArgCount, fnArg, past}
 use Rattle.laws.proofs.Accepted.Steps.{after-is, Reads, _then_, nothing-read, RowOrNone, ListAt, limited-reads, orNone-reads, list-reads}
-use Rattle.laws.proofs.Accepted.Sheet.{Bodies, bodies-of}
+use Rattle.laws.proofs.Accepted.Sheet.{bodies-of}
 use Rattle.laws.proofs.Tests.{never}
 
 -- kinds 1 to 8, 10 and 11: one row stands inside

@@ -1,6 +1,6 @@
 -- An accepted sheet as a whole: its limits, and its bodies, each at the offset that the contents give, without gaps.
 -- Assumes nothing.
-use Prim.Native.Nat.{ℕ, zero, suc, _+_, _-_, _*_, _≤_, _<_}
+use Prim.Native.Nat.{ℕ, suc, _+_, _-_, _*_, _≤_, _<_}
 use mathlib.Core.Path.{_≡_, refl, sym, ap, _∙_, subst}
 use mathlib.Core.List.{List}
 use mathlib.Core.Bool.{Bool, true, false}
@@ -10,7 +10,7 @@ use lib.Dec.{ltb, leb, eqb}
 use borrow.Author.Tests.{ltb-true, ltb-false, leb-true, eqb-true}
 use Rattle.rules.specs.declared.Step.{Step}
 use Rattle.rules.specs.declared.Step.the-variants.{Next}
-use Rattle.rules.specs.Format.{check, after, each, pairAt, offset, row, fresh, rowAt, item, itemAt, read, Accepted}
+use Rattle.rules.specs.Format.{check, after, each, offset, row, fresh, rowAt, item, itemAt, read, Accepted}
 use Rattle.rules.specs.View.{rows, items}
 use Rattle.laws.proofs.Accepted.Steps.{after-is, check-is, EachRead, each-read}
 
@@ -136,7 +136,8 @@ module _ (s : List ℕ) where
         let a = row-is r (p .the-rows .start r) (rw z at (p .the-rows .body r l)) in
         rw (start-row r (omega arith), start-row (suc r) l) a
 
-    item-there : (i : ℕ) → i < items s → (offset s (rows s + i) ≡ start-of (rows s + i)) × (item s (rows s) (start-of (rows s + i)) ≡ Next (start-of (suc (rows s + i))))
+    item-there : (i : ℕ) → i < items s
+        → (offset s (rows s + i) ≡ start-of (rows s + i)) × (item s (rows s) (start-of (rows s + i)) ≡ Next (start-of (suc (rows s + i))))
     item-there i l =
         let z : 0 + i ≡ i = omega arith in
         let y : suc (rows s + i) ≡ rows s + suc i = omega arith in

@@ -1,8 +1,8 @@
 -- The reader's steps, read backwards: what holds of the pairs that a step passed over, and where it ended.
 -- Assumes nothing.
 use Prim.Native.Nat.{ℕ, zero, suc, _+_, _*_, _≤_, _<_}
-use mathlib.Core.Path.{_≡_, refl, sym, ap, _∙_}
-use mathlib.Core.List.{List, [], _∷_}
+use mathlib.Core.Path.{_≡_, refl, sym}
+use mathlib.Core.List.{List}
 use mathlib.Core.Logic.{_⊎_, inl, inr}
 use mathlib.Core.Bool.{Bool, true, false, _||_, _&&_}
 use native.Mathlib.Omega.{arith}
@@ -13,7 +13,7 @@ use Rattle.rules.specs.declared.Step.{Step}
 use Rattle.rules.specs.declared.Step.the-variants.{Next, Refused}
 use Rattle.rules.specs.Format.{check, after, _>>_, end, each, pairAt, offset, one, limited, orNone, times, list, typeHead, repr, variants, receivers, receiver}
 use Rattle.rules.specs.View.{kind, past, entry}
-use Rattle.laws.proofs.Tests.{never, or-is, both-are}
+use Rattle.laws.proofs.Tests.{or-is, both-are}
 
 -- a refusal is no place
 refused : {A : Type 0} {w p q : ℕ} → Refused w p ≡ Next q → A
@@ -70,7 +70,11 @@ module _ (s : List ℕ) where
 
   pub orNone-reads : (n : ℕ) → Reads (orNone s n) (λ at q. RowOrNone n (pairAt s at) × (q ≡ at + 2))
   unfolding orNone
-  orNone-reads n = record { of = λ at h. let a = one-reads 7 (λ v. eqb v 65535 || ltb v n) .of at h in (by (pairAt s at) (or-is (eqb (pairAt s at) 65535) (ltb (pairAt s at) n) (a .0)), a .1) }
+  orNone-reads n =
+      record {
+        of = λ at h. let a = one-reads 7 (λ v. eqb v 65535 || ltb v n) .of at h in
+            (by (pairAt s at) (or-is (eqb (pairAt s at) 65535) (ltb (pairAt s at) n) (a .0)), a .1);
+      }
     where
       by : (v : ℕ) → (eqb v 65535 ≡ true) ⊎ (ltb v n ≡ true) → RowOrNone n v
       by v (inl e) = inl (eqb-true v 65535 e)

@@ -1,10 +1,10 @@
 -- How many records an item has, of messages 1, 2 and 27 to 58: no more than its bytes, and two for its offset.
 -- Assumes nothing.
 use Prim.Native.Nat.{ℕ, zero, suc, _+_, _*_, _≤_, _<_}
-use mathlib.Core.Path.{_≡_, refl, sym, ap, _∙_}
-use mathlib.Core.Logic.{_⊎_, inl, inr}
-use mathlib.Core.Bool.{Bool, true, false, not, _&&_}
-use mathlib.Core.List.{List, [], _∷_}
+use mathlib.Core.Path.{_≡_, refl}
+use mathlib.Core.Logic.{inl, inr}
+use mathlib.Core.Bool.{not, _&&_}
+use mathlib.Core.List.{List, []}
 use native.Mathlib.Omega.{arith}
 use lib.Dec.{eqb}
 use lib.ListN.{length, getD, length-append}
@@ -13,12 +13,16 @@ use Rattle.rules.specs.declared.Diagnostic.{Diagnostic}
 use Rattle.rules.specs.Base.{if_then_else_, over}
 use Rattle.rules.specs.Diagnostics.{say, when, bit}
 use Rattle.rules.specs.Format.{Accepted}
-use Rattle.rules.specs.View.{rows, Struct, CxxFunction, items, itemKind, itemIs, itemPlace, lifetimeCount, deriveCount, fieldCount, functionUnwind, isMethod, isFree, argCount}
+use Rattle.rules.specs.View.{rows, Struct, CxxFunction, items, itemKind, itemIs, itemPlace, lifetimeCount, deriveCount, fieldCount, functionUnwind, isMethod}
+use Rattle.rules.specs.View.{isFree, argCount}
 use Rattle.rules.specs.Collect.{duplicate}
 use Rattle.rules.specs.Types.{Types}
-use Rattle.rules.specs.Check.{check-reserved-name, check-reserved-lifetime, check-lifetimes, check-struct-derive, check-struct-field, check-api-struct, check-enum-derive, check-api-enum, check-opaque-derive, check-api-type, check-mut-return-restriction, check-fn-generics, check-fn-receiver, check-fn-self-type, check-fn-arg, check-fn-return, check-api-fn, check-api-type-alias, check-impl-self, check-api-impl, no-check, api-checks, check-api}
+use Rattle.rules.specs.Check.{check-reserved-name, check-reserved-lifetime, check-lifetimes, check-struct-derive, check-struct-field, check-api-struct}
+use Rattle.rules.specs.Check.{check-enum-derive, check-api-enum, check-opaque-derive, check-api-type, check-mut-return-restriction, check-fn-generics}
+use Rattle.rules.specs.Check.{check-fn-receiver, check-fn-self-type, check-fn-arg, check-fn-return, check-api-fn, check-api-type-alias, check-impl-self}
+use Rattle.rules.specs.Check.{check-api-impl, no-check, api-checks, check-api}
 use Rattle.laws.proofs.Accepted.Sheet.{bodies-of}
-use Rattle.laws.proofs.Accepted.Items.{Sizes, item-of, item-sizes}
+use Rattle.laws.proofs.Accepted.Items.{item-of, item-sizes}
 use Rattle.laws.proofs.Bounds.Lengths.{length-when, when-one, none≤1, one≤1, if-few, over-few}
 
 module _ (s : List ℕ) (t : Types) (i : ℕ) where
@@ -37,7 +41,8 @@ module _ (s : List ℕ) (t : Types) (i : ℕ) where
   struct-few =
       let derives : length (over (deriveCount s i) (check-struct-derive s t i)) ≤ deriveCount s i * 2 =
       over-few (check-struct-derive s t i) (deriveCount s i) 2 (λ j _. simp (length-append, length-when) (omega arith)) in
-      let fields : length (over (fieldCount s i) (check-struct-field s t i)) ≤ fieldCount s i * 1 = over-few (check-struct-field s t i) (fieldCount s i) 1 (λ j _. search (if-few, when-one, one≤1)) in
+      let fields : length (over (fieldCount s i) (check-struct-field s t i)) ≤ fieldCount s i * 1 =
+      over-few (check-struct-field s t i) (fieldCount s i) 1 (λ j _. search (if-few, when-one, one≤1)) in
       simp (length-append, length-when) (omega (arith, reserved-few, lifetimes-few))
 
   enum-few : length (check-api-enum s t i) ≤ 2 + lifetimeCount s i + 2 * deriveCount s i
@@ -50,7 +55,8 @@ module _ (s : List ℕ) (t : Types) (i : ℕ) where
   type-few : length (check-api-type s t i) ≤ 3 + lifetimeCount s i + deriveCount s i
   unfolding check-api-type check-opaque-derive
   type-few =
-      let derives : length (over (deriveCount s i) (check-opaque-derive s t i)) ≤ deriveCount s i * 1 = over-few (check-opaque-derive s t i) (deriveCount s i) 1 (λ j _. search when-one) in
+      let derives : length (over (deriveCount s i) (check-opaque-derive s t i)) ≤ deriveCount s i * 1 =
+      over-few (check-opaque-derive s t i) (deriveCount s i) 1 (λ j _. search when-one) in
       simp (length-append, length-when) (omega (arith, reserved-few, lifetimes-few))
 
   generics-few : length (check-fn-generics s t i) ≤ 1
@@ -90,7 +96,8 @@ module _ (s : List ℕ) (t : Types) (i : ℕ) where
   alias-few : length (check-api-type-alias s t i) ≤ lifetimeCount s i + deriveCount s i
   unfolding check-api-type-alias
   alias-few =
-      let derives : length (over (deriveCount s i) (λ j. say 52 (D i j))) ≤ deriveCount s i * 1 = over-few (λ j. say 52 (D i j)) (deriveCount s i) 1 (λ j _. one≤1) in
+      let derives : length (over (deriveCount s i) (λ j. say 52 (D i j))) ≤ deriveCount s i * 1 =
+      over-few (λ j. say 52 (D i j)) (deriveCount s i) 1 (λ j _. one≤1) in
       simp length-append (omega (arith, lifetimes-few))
 
   self-impl-few : length (check-impl-self s t i) ≤ 1
@@ -122,7 +129,8 @@ module _ (s : List ℕ) (acc : Accepted s) (t : Types) (i : ℕ) (l : i < items 
   fits (suc (suc (suc (suc (suc (suc zero)))))) e = omega (arith, function-few s t i, item-sizes s acc i l .function (inr e))
   fits (suc (suc (suc (suc (suc (suc (suc zero))))))) e = omega (arith, alias-few s t i, item-sizes s acc i l .alias e)
   fits (suc (suc (suc (suc (suc (suc (suc (suc zero)))))))) e = omega (arith, impl-few s t i, item-sizes s acc i l .impl e)
-  fits (suc (suc (suc (suc (suc (suc (suc (suc (suc k))))))))) e = let z : suc (suc (suc (suc (suc (suc (suc (suc (suc k)))))))) < 9 = rw e at (item-of s acc i l .known) in absurd (omega arith)
+  fits (suc (suc (suc (suc (suc (suc (suc (suc (suc k))))))))) e =
+      let z : suc (suc (suc (suc (suc (suc (suc (suc (suc k)))))))) < 9 = rw e at (item-of s acc i l .known) in absurd (omega arith)
 
   pub item-room : recordsOf s t i + bodies-of s acc .start (rows s + i) ≤ bodies-of s acc .start (suc (rows s + i)) + 2
   unfolding recordsOf check-api itemIs itemPlace next

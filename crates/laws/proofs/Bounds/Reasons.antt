@@ -1,8 +1,7 @@
 -- The reasons of a name are as many as stand for it in the list of reasons; on an accepted sheet at most 17,344.
 -- Assumes nothing.
-use Prim.Native.Nat.{ℕ, zero, suc, _+_, _*_, _≤_, _<_}
-use mathlib.Core.Path.{_≡_, refl, sym, ap, _∙_}
-use mathlib.Core.Logic.{_⊎_, inl, inr}
+use Prim.Native.Nat.{ℕ, _+_, _*_, _≤_, _<_}
+use mathlib.Core.Path.{_≡_, refl, _∙_}
 use mathlib.Core.Bool.{Bool, true, false}
 use mathlib.Core.List.{List, [], _∷_, _++_}
 use native.Mathlib.Omega.{arith}
@@ -95,7 +94,8 @@ module _ (s : List ℕ) (structs enums cxx : Words) where
 
       go : (a b : Bool) → eqb (itemKind s i) Struct ≡ a → isFunction s i ≡ b → length (if a then fields else if b then args ++ returned else []) ≤ 64
       go true b e _ =
-          let few : length fields ≤ fieldCount s i * 1 = over-few (λ j. insist s structs enums cxx (field s i j)) (fieldCount s i) 1 (λ j _. insist-few (field s i j)) in
+          let few : length fields ≤ fieldCount s i * 1 =
+          over-few (λ j. insist s structs enums cxx (field s i j)) (fieldCount s i) 1 (λ j _. insist-few (field s i j)) in
           omega (arith, item .as-struct (eqb-true (itemKind s i) Struct e) .few-fields)
       go false true _ e =
           let few : length args ≤ argCount s i * 1 = over-few (λ j. insist s structs enums cxx (arg s i j)) (argCount s i) 1 (λ j _. insist-few (arg s i j)) in
@@ -121,4 +121,5 @@ reasons-few s acc n = go (decLt n 256)
 
     go : Dec (n < 256) → getD (reasonsOf names) n 0 ≤ 17344
     go (yes l) = omega (arith, reasons-are names n l, count-few n names, names-few s (t .structs) (t .enums) (t .cxx) acc (t .all) (all-few s acc))
-    go (no l) = omega (arith, List·getD-eq-default (reasonsOf names) 0 (let e = reasons-length names in let m : length (reasonsOf names) ≤ n = omega arith in m))
+    go (no l) =
+        omega (arith, List·getD-eq-default (reasonsOf names) 0 (let e = reasons-length names in let m : length (reasonsOf names) ≤ n = omega arith in m))

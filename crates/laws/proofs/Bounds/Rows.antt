@@ -1,4 +1,5 @@
 -- How many records a row has: at most three, and an Fn at most one more than its arguments; so no more than its bytes, and two for its offset.
+-- Assumes nothing.
 use Prim.Native.Nat.{ℕ, zero, suc, _+_, _*_, _≤_, _<_}
 use mathlib.Core.Path.{_≡_, refl}
 use mathlib.Core.Logic.{_≢_}
@@ -13,7 +14,9 @@ use Rattle.rules.specs.Diagnostics.{say, when}
 use Rattle.rules.specs.Format.{offset, Accepted}
 use Rattle.rules.specs.View.{Ptr, Fn, flag1, rows, kind, is, rowFlags, fnArgCount, fnArg}
 use Rattle.rules.specs.Types.{Types}
-use Rattle.rules.specs.Check.{check-type-ident, check-type-box, check-type-rust-vec, check-type-unique-ptr, check-type-shared-ptr, check-type-weak-ptr, check-type-cxx-vector, check-type-ref, check-type-ptr, check-type-slice-ref, check-type-array, check-type-fn, no-check, type-checks, check-type}
+use Rattle.rules.specs.Check.{check-type-ident, check-type-box, check-type-rust-vec, check-type-unique-ptr, check-type-shared-ptr, check-type-weak-ptr}
+use Rattle.rules.specs.Check.{check-type-cxx-vector, check-type-ref, check-type-ptr, check-type-slice-ref, check-type-array, check-type-fn, no-check}
+use Rattle.rules.specs.Check.{type-checks, check-type}
 use Rattle.laws.proofs.Counts.{Eq?, same, other, eq?}
 use Rattle.laws.proofs.Accepted.Sheet.{bodies-of}
 use Rattle.laws.proofs.Accepted.Rows.{row-size, fn-size}
@@ -105,7 +108,8 @@ module _ (s : List ℕ) (t : Types) where
   row-fn r e = rw e (fn-few r)
 
 -- a row has no more records than bytes, and two for its offset
-pub row-room : (s : List ℕ) (acc : Accepted s) (t : Types) (r : ℕ) → r < rows s → length (check-type s t r) + bodies-of s acc .start r ≤ bodies-of s acc .start (suc r) + 2
+pub row-room : (s : List ℕ) (acc : Accepted s) (t : Types) (r : ℕ) → r < rows s
+    → length (check-type s t r) + bodies-of s acc .start r ≤ bodies-of s acc .start (suc r) + 2
 row-room s acc t r l = go (eq? (kind s r) Fn)
   where
     at : offset s r ≡ bodies-of s acc .start r

@@ -1,27 +1,25 @@
 -- The full report of an accepted sheet has fewer records than the sheet has bytes: so fewer than 32,768.
 -- Assumes nothing.
 use Prim.Native.Nat.{ℕ, zero, suc, _+_, _*_, _≤_, _<_}
-use mathlib.Core.Path.{_≡_, refl, sym, ap, _∙_}
-use mathlib.Core.List.{List, _++_}
+use mathlib.Core.Path.{_≡_, ap}
+use mathlib.Core.List.{List}
 use native.Mathlib.Omega.{arith}
 use lib.ListN.{length, getD, length-append}
 use Rattle.rules.specs.declared.Place.the-variants.{I}
-use Rattle.rules.specs.declared.Diagnostic.{Diagnostic}
 use Rattle.rules.specs.Base.{over}
 use Rattle.rules.specs.Count.{count}
 use Rattle.rules.specs.Diagnostics.{say, when, bit}
 use Rattle.rules.specs.Format.{Accepted}
 use Rattle.rules.specs.View.{rows, items, Struct, itemIs, fieldCount}
-use Rattle.rules.specs.Collect.{duplicate, duplicates, collectedTo}
+use Rattle.rules.specs.Collect.{duplicate, duplicates}
 use Rattle.rules.specs.Types.{Types, typesOf}
 use Rattle.rules.specs.Order.{walkOf}
 use Rattle.rules.specs.Check.{check-type, check-api}
 use Rattle.rules.specs.Report.{report, reportOf}
-use Rattle.laws.specs.Visits.{namedTo}
-use Rattle.laws.proofs.Sums.{sumTo, sum-add, sum-le, weight, weight-sum}
+use Rattle.laws.proofs.Sums.{sumTo, sum-add, sum-le, weight-sum}
 use Rattle.laws.proofs.Accepted.{fits}
-use Rattle.laws.proofs.Accepted.Sheet.{sheet-of, Bodies, bodies-of}
-use Rattle.laws.proofs.Collect.{all-once, all-below, collected-below}
+use Rattle.laws.proofs.Accepted.Sheet.{sheet-of, bodies-of}
+use Rattle.laws.proofs.Collect.{all-once, collected-below}
 use Rattle.laws.proofs.Bounds.Lengths.{over-sum, entries-sum}
 use Rattle.laws.proofs.Bounds.Rows.{row-room}
 use Rattle.laws.proofs.Bounds.Items.{recordsOf, item-room}

@@ -1,17 +1,16 @@
 -- The visits that the walk makes, in the words of the sheet: one for each struct item, and one for each plain field of a struct item that bears a struct's
 -- name. At most so many of message 2, less the struct items.
 -- Assumes nothing.
-use Prim.Native.Nat.{ℕ, zero, suc, _+_, _*_, _≤_, _<_}
-use mathlib.Core.Path.{_≡_, refl, sym, ap, _∙_, subst}
-use mathlib.Core.Logic.{_≢_}
+use Prim.Native.Nat.{ℕ, zero, suc, _+_, _*_, _≤_}
+use mathlib.Core.Path.{_≡_, refl, ap, _∙_}
 use mathlib.Core.Bool.{Bool, true, false, not, _&&_}
-use mathlib.Core.List.{List, [], _∷_, _++_}
+use mathlib.Core.List.{List}
 use native.Mathlib.Omega.{arith}
-use lib.Dec.{T, eqb, ltb}
+use lib.Dec.{eqb, ltb}
 use lib.ListN.{length, getD, set, replicate, length-append}
 use Rattle.rules.specs.Diagnostics.{bit}
 use Rattle.rules.specs.Graph.{Graph}
-use Rattle.rules.specs.Walk.{Out, still, join, blame, flagged, seen, finished, fieldOut, fieldsOut, visitOut, itemOut, itemsOut, sortOut}
+use Rattle.rules.specs.Walk.{Out, still, blame, flagged, seen, finished, fieldOut, fieldsOut, visitOut, itemOut, itemsOut, sortOut}
 use Rattle.laws.proofs.Sums.{sumTo, sum-same, sum-add, sum-cut}
 use Rattle.rules.specs.View.{Ident, is, rowName, Struct, items, itemKind, itemIs, fieldCount, field}
 use Rattle.rules.specs.Base.{if_then_else_}
@@ -43,15 +42,18 @@ module _ (G : Graph) where
   blame-length true i k = refl
   blame-length false i k = refl
 
-  field-paid : (v : List ℕ → ℕ → Out) → ((m : List ℕ) (j : ℕ) → Paid (v m j)) → (i k : ℕ) (m : List ℕ) → length (fieldOut v G i k m .errors) ≤ fieldOut v G i k m .calls
+  field-paid : (v : List ℕ → ℕ → Out) → ((m : List ℕ) (j : ℕ) → Paid (v m j)) → (i k : ℕ) (m : List ℕ)
+      → length (fieldOut v G i k m .errors) ≤ fieldOut v G i k m .calls
   unfolding fieldOut Paid
   field-paid v h i k m = go (eqb (G .to i k) 255)
     where
-      go : (b : Bool) → length ((elim b as (λ _. Out) [ true ↦ still m | false ↦ flagged i k (v m (G .to i k)) ]) .errors) ≤ (elim b as (λ _. Out) [ true ↦ still m | false ↦ flagged i k (v m (G .to i k)) ]) .calls
+      go : (b : Bool) → length ((elim b as (λ _. Out) [ true ↦ still m | false ↦ flagged i k (v m (G .to i k)) ]) .errors)
+          ≤ (elim b as (λ _. Out) [ true ↦ still m | false ↦ flagged i k (v m (G .to i k)) ]) .calls
       go true = omega arith
       go false = let a = v m (G .to i k) in omega (arith, h m (G .to i k), length-append (a .errors) (blame (a .ok) i k), blame-length (a .ok) i k)
 
-  fields-paid : (v : List ℕ → ℕ → Out) → ((m : List ℕ) (j : ℕ) → Paid (v m j)) → (i k : ℕ) (m : List ℕ) → length (fieldsOut v G i k m .errors) ≤ fieldsOut v G i k m .calls
+  fields-paid : (v : List ℕ → ℕ → Out) → ((m : List ℕ) (j : ℕ) → Paid (v m j)) → (i k : ℕ) (m : List ℕ)
+      → length (fieldsOut v G i k m .errors) ≤ fieldsOut v G i k m .calls
   unfolding fieldsOut
   fields-paid v h i zero m = omega arith
   fields-paid v h i (suc k) m =
@@ -60,14 +62,16 @@ module _ (G : Graph) where
       omega (arith, fields-paid v h i k m, field-paid v h i k (a .marks), length-append (a .errors) (b .errors))
 
   -- a visit with fuel
-  visit-pays : (f : ℕ) → ((m : List ℕ) (j : ℕ) → Paid (visitOut f G m j)) → (m : List ℕ) (i : ℕ) → length (visitOut (suc f) G m i .errors) + 1 ≤ visitOut (suc f) G m i .calls
+  visit-pays : (f : ℕ) → ((m : List ℕ) (j : ℕ) → Paid (visitOut f G m j)) → (m : List ℕ) (i : ℕ)
+      → length (visitOut (suc f) G m i .errors) + 1 ≤ visitOut (suc f) G m i .calls
   unfolding visitOut
   visit-pays f h m i = go (eqb (getD m i 0) 0)
     where
       all : Out
       all = fieldsOut (visitOut f G) G i (G .fields i) (set m i 1)
 
-      go : (b : Bool) → length ((elim b as (λ _. Out) [ true ↦ finished i all | false ↦ seen (eqb (getD m i 0) 2) m ]) .errors) + 1 ≤ (elim b as (λ _. Out) [ true ↦ finished i all | false ↦ seen (eqb (getD m i 0) 2) m ]) .calls
+      go : (b : Bool) → length ((elim b as (λ _. Out) [ true ↦ finished i all | false ↦ seen (eqb (getD m i 0) 2) m ]) .errors) + 1
+          ≤ (elim b as (λ _. Out) [ true ↦ finished i all | false ↦ seen (eqb (getD m i 0) 2) m ]) .calls
       go true = omega (arith, fields-paid (visitOut f G) h i (G .fields i) (set m i 1))
       go false = omega arith
 
@@ -80,7 +84,8 @@ module _ (G : Graph) where
   unfolding itemOut
   item-pays f i m = go (G .struct i)
     where
-      go : (b : Bool) → length ((elim b as (λ _. Out) [ true ↦ visitOut (suc f) G m i | false ↦ still m ]) .errors) + bit b ≤ (elim b as (λ _. Out) [ true ↦ visitOut (suc f) G m i | false ↦ still m ]) .calls
+      go : (b : Bool) → length ((elim b as (λ _. Out) [ true ↦ visitOut (suc f) G m i | false ↦ still m ]) .errors) + bit b
+          ≤ (elim b as (λ _. Out) [ true ↦ visitOut (suc f) G m i | false ↦ still m ]) .calls
       go true = visit-pays f (visit-paid f) m i
       go false = omega arith
 
@@ -165,12 +170,12 @@ module _ (s : List ℕ) (fits : Fits s) where
   pub visits-are : walkOf s t .calls ≡ structsTo s (items s) + namedTo s (items s)
   unfolding walkOf work
   visits-are =
-      let each : ℕ → ℕ = λ x. leading G x (fieldCount s x) in
-      let a : sumTo 255 (λ x. bit (G .struct x) * suc (each x)) ≡ sumTo (items s) (λ x. bit (itemIs s Struct x) * suc (each x)) = structs-sum (λ x. suc (each x)) in
-      let b : sumTo (items s) (λ x. bit (itemIs s Struct x) * suc (each x)) ≡ sumTo (items s) (λ x. bit (itemIs s Struct x) * 1 + bit (itemIs s Struct x) * each x) =
-      sum-same (items s) (λ x. bit (itemIs s Struct x) * suc (each x)) (λ x. bit (itemIs s Struct x) * 1 + bit (itemIs s Struct x) * each x) (λ x _. omega arith) in
-      let c = sum-add (items s) (λ x. bit (itemIs s Struct x) * 1) (λ x. bit (itemIs s Struct x) * each x) in
-      calls-are G 255 (good s fits) ∙ a ∙ b ∙ c ∙ omega (arith, structs-are-counted (items s), fields-are-counted (items s))
+      let structs : ℕ → ℕ = λ x. bit (itemIs s Struct x) * 1 in
+      let fields : ℕ → ℕ = λ x. bit (itemIs s Struct x) * leading G x (fieldCount s x) in
+      let all : ℕ → ℕ = λ x. bit (itemIs s Struct x) * suc (leading G x (fieldCount s x)) in
+      calls-are G 255 (good s fits) ∙ structs-sum (λ x. suc (leading G x (fieldCount s x)))
+      ∙ sum-same (items s) all (λ x. structs x + fields x) (λ x _. omega arith) ∙ sum-add (items s) structs fields
+      ∙ omega (arith, structs-are-counted (items s), fields-are-counted (items s))
 
   -- no more of message 2 than struct-named plain fields
   pub cyclic-few : length (walkOf s t .errors) ≤ namedTo s (items s)
@@ -178,7 +183,8 @@ module _ (s : List ℕ) (fits : Fits s) where
   cyclic-few =
       let a : walkOf s t .calls ≡ structsTo s (items s) + namedTo s (items s) = visits-are in
       let b : sumTo 255 (λ x. bit (G .struct x) * 1) ≡ structsTo s (items s) = structs-sum (λ _. 1) ∙ structs-are-counted (items s) in
-      let c : sumTo 255 (λ x. bit (G .struct x) * 1) ≡ sumTo 255 (λ x. bit (G .struct x)) = sum-same 255 (λ x. bit (G .struct x) * 1) (λ x. bit (G .struct x)) (λ x _. omega arith) in
+      let c : sumTo 255 (λ x. bit (G .struct x) * 1) ≡ sumTo 255 (λ x. bit (G .struct x)) =
+      sum-same 255 (λ x. bit (G .struct x) * 1) (λ x. bit (G .struct x)) (λ x _. omega arith) in
       omega (arith, errors-few G 255)
 
 module _ (s : List ℕ) where

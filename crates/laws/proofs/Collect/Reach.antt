@@ -1,7 +1,7 @@
 -- A visit adds exactly the rows that its row reaches.
 -- Assumes nothing.
 use Prim.Native.Nat.{ℕ, zero, suc, _<_}
-use mathlib.Core.Path.{_≡_, refl, sym, ap, _∙_}
+use mathlib.Core.Path.{_≡_}
 use mathlib.Core.Logic.{_⊎_, inl, inr}
 use mathlib.Core.List.{List, [], _∷_, foldl}
 use native.Mathlib.Omega.{arith}
@@ -49,13 +49,16 @@ module _ (s : List ℕ) where
       go (inr p) = inr (on (p .there) (p .reaches))
 
   module _ (falls : (r : ℕ) → r < rows s → (x : ℕ) → In x (shown s r) → x < r) where
-    fold-in : (f : ℕ) (l all : List ℕ) (q x : ℕ) → ((y : ℕ) → In y l → (y < f) × (y < rows s)) → In q l → ((a : List ℕ) → In x (visit s f a q)) → In x (foldl (visit s f) all l)
+    fold-in : (f : ℕ) (l all : List ℕ) (q x : ℕ) → ((y : ℕ) → In y l → (y < f) × (y < rows s)) → In q l → ((a : List ℕ) → In x (visit s f a q))
+        → In x (foldl (visit s f) all l)
     fold-in f [] all q x b i h = absurd (omega arith)
     fold-in f (y ∷ l) all q x b i h = go (in-cons q y l i) (fold-in f l (visit s f all y) q x (λ z k. b z (in-tail z y l k)))
       where
-        go : (q ≡ y) ⊎ In q l → (In q l → ((a : List ℕ) → In x (visit s f a q)) → In x (foldl (visit s f) (visit s f all y) l)) → In x (foldl (visit s f) (visit s f all y) l)
+        go : (q ≡ y) ⊎ In q l → (In q l → ((a : List ℕ) → In x (visit s f a q)) → In x (foldl (visit s f) (visit s f all y) l))
+            → In x (foldl (visit s f) (visit s f all y) l)
         go (inl e) ih =
-            fold-grows s (visit s f) l (visit s f all y) (λ a z k. let m = b z (in-tail z y l k) in visit-grows s falls f z a (m .0) (m .1)) .0 .kept x (rw e at (h all))
+            fold-grows s (visit s f) l (visit s f all y) (λ a z k. let m = b z (in-tail z y l k) in visit-grows s falls f z a (m .0) (m .1)) .0 .kept x
+            (rw e at (h all))
         go (inr k) ih = ih k h
 
     -- and all of it does
@@ -68,4 +71,5 @@ module _ (s : List ℕ) where
         fold-in f (shown s r) (enter s all r) q x below i (λ a. visit-reaches f q a x (below q i .0) (below q i .1) p)
 
     pub fold-reaches : (f : ℕ) (l all : List ℕ) (x : ℕ) → ((y : ℕ) → In y l → (y < f) × (y < rows s)) → From l x → In x (foldl (visit s f) all l)
-    fold-reaches f l all x b p = fold-in f l all (p .row) x b (p .there) (λ a. let m = b (p .row) (p .there) in visit-reaches f (p .row) a x (m .0) (m .1) (p .reaches))
+    fold-reaches f l all x b p =
+        fold-in f l all (p .row) x b (p .there) (λ a. let m = b (p .row) (p .there) in visit-reaches f (p .row) a x (m .0) (m .1) (p .reaches))

@@ -7,9 +7,11 @@ use mathlib.Core.Bool.{Bool, true, false, _||_}
 use mathlib.Core.List.{List, [], _∷_, _++_}
 use lib.Dec.{eqb}
 use borrow.Author.Tests.{eqb-true}
-use Rattle.rules.specs.Base.{if_then_else_, over, some}
+use Rattle.rules.specs.Base.{if_then_else_, some}
 use Rattle.rules.specs.Format.{pairAt, offset, Accepted}
-use Rattle.rules.specs.View.{Ident, Str, Fn, Void, rows, kind, inner, fnReturn, fnArgs, fnArgCount, fnArg, shown, orNothing, entry, entries, Struct, Enum, CxxFunction, RustFunction, Impl, items, itemKind, itemIs, isFunction, rest, fields, fieldCount, field, enumRepr, args, argCount, arg, returnPlace, return, implRow}
+use Rattle.rules.specs.View.{Ident, Str, Fn, Void, rows, kind, inner, fnReturn, fnArgs, fnArgCount, fnArg, shown, orNothing, entry, entries, Struct, Enum}
+use Rattle.rules.specs.View.{CxxFunction, RustFunction, Impl, items, itemKind, itemIs, isFunction, rest, fields, fieldCount, field, enumRepr, args, argCount}
+use Rattle.rules.specs.View.{arg, returnPlace, return, implRow}
 use Rattle.rules.specs.Collect.{shownBy}
 use Rattle.laws.specs.Reach.{In}
 use Rattle.laws.proofs.Tests.{never, both, all-pass}
@@ -151,7 +153,8 @@ module _ (s : List ℕ) (acc : Accepted s) where
       of-function f (inl j) = entries-below s (rows s) (returnPlace s i + 2) (f .arg-below) x j
       of-function f (inr j) = or-nothing-below s (rows s) (return s i) (f .return-below) x j
 
-      go : (a b c d : Bool) → eqb (itemKind s i) Struct ≡ a → eqb (itemKind s i) Enum ≡ b → isFunction s i ≡ c → eqb (itemKind s i) Impl ≡ d → In x (shownByAs s i a b c d) → x < rows s
+      go : (a b c d : Bool) → eqb (itemKind s i) Struct ≡ a → eqb (itemKind s i) Enum ≡ b → isFunction s i ≡ c → eqb (itemKind s i) Impl ≡ d
+          → In x (shownByAs s i a b c d) → x < rows s
       go true b c d e _ _ _ j = entries-below s (rows s) (rest s i) (item .as-struct (eqb-true (itemKind s i) Struct e) .field-below) x j
       go false true c d _ e _ _ j = rw (in-one x (enumRepr s i) j) (item .as-enum (eqb-true (itemKind s i) Enum e) .repr-below)
       go false false true d _ _ e _ j = of-function (item .as-function e) (in-cases x (args s i) (orNothing (return s i)) j)

@@ -1,20 +1,19 @@
 -- A row that is met again need not be walked again: all that it shows has been collected, since rows refer to smaller rows only. Above the row, the fuel
 -- of either walk is of no account.
 -- Assumes nothing.
-use Prim.Native.Nat.{ℕ, zero, suc, _+_, _≤_, _<_}
-use mathlib.Core.Path.{_≡_, refl, sym, ap, _∙_}
+use Prim.Native.Nat.{ℕ, zero, suc, _≤_, _<_}
+use mathlib.Core.Path.{_≡_, refl, ap}
 use mathlib.Core.Logic.{_⊎_, inl, inr}
 use mathlib.Core.Bool.{Bool, true, false}
 use mathlib.Core.List.{List, [], _∷_, _++_, foldl}
 use native.Mathlib.Omega.{arith}
-use lib.Dec.{eqb}
-use Rattle.rules.specs.Base.{if_then_else_, anyOf}
+use Rattle.rules.specs.Base.{if_then_else_}
 use Rattle.rules.specs.Count.{count}
 use Rattle.rules.specs.View.{rows, shown}
 use Rattle.rules.specs.Collect.{enter, visit}
 use Rattle.laws.specs.Reach.{In}
 use Rattle.laws.specs.Skip.{seen, skipVisit}
-use Rattle.laws.proofs.Counts.{Eq?, same, other, eq?, count-append, count-snoc-same, count-snoc-other}
+use Rattle.laws.proofs.Counts.{Eq?, same, other, eq?, count-snoc-same, count-snoc-other}
 use Rattle.laws.proofs.Members.{in-none, in-head, in-tail, in-cons, in-one, in-left, in-right, in-cases, Seen?, old, new, seen?}
 
 -- ## Entering a row
@@ -164,7 +163,8 @@ module _ (s : List ℕ) where
     pub visit-old : (f r : ℕ) (all : List ℕ) → r < rows s → ClosedBelow (suc r) all → seen all r ≡ true → In r all → visit s f all r ≡ all
     unfolding visit
     visit-old zero r all t c e h = refl
-    visit-old (suc f) r all t c e h = rw (enter-old s all r e) (fold-none (visit s f) (shown s r) all (λ x i. go x (falls r t x i) (c r (omega arith) h x i) (visit-old f x all)))
+    visit-old (suc f) r all t c e h =
+        rw (enter-old s all r e) (fold-none (visit s f) (shown s r) all (λ x i. go x (falls r t x i) (c r (omega arith) h x i) (visit-old f x all)))
       where
         go : (x : ℕ) → x < r → In x all → (x < rows s → ClosedBelow (suc x) all → seen all x ≡ true → In x all → visit s f all x ≡ all) → visit s f all x ≡ all
         go x d i ih = by (seen? all x)
@@ -186,7 +186,8 @@ module _ (s : List ℕ) where
             by (inl i) = in-left y all (r ∷ []) (c x (omega arith) i y k)
             by (inr i) = absurd (let q = in-one x r i in omega arith)
 
-        go : Seen? all r → ((x : ℕ) (a : List ℕ) → x < f → x < rows s → ClosedBelow (suc x) a → visit s f a x ≡ skipVisit s f a x) → visit s (suc f) all r ≡ skipVisit s (suc f) all r
+        go : Seen? all r → ((x : ℕ) (a : List ℕ) → x < f → x < rows s → ClosedBelow (suc x) a → visit s f a x ≡ skipVisit s f a x)
+            → visit s (suc f) all r ≡ skipVisit s (suc f) all r
         go (old e i) ih = rw (e, skipVisit) (visit-old (suc f) r all t c e i)
         go (new e z) ih =
             rw (e, skipVisit, enter-new s all r e)
@@ -201,7 +202,8 @@ module _ (s : List ℕ) where
     visit-fuel zero g r all l m t = absurd (omega arith)
     visit-fuel (suc f) zero r all l m t = absurd (omega arith)
     visit-fuel (suc f) (suc g) r all l m t =
-        fold-same (visit s f) (visit s g) (λ _. Unit) (shown s r) (enter s all r) tt (λ a x i _. let d = falls r t x i in visit-fuel f g x a (omega arith) (omega arith) (omega arith)) (λ _ _ _ _. tt)
+        fold-same (visit s f) (visit s g) (λ _. Unit) (shown s r) (enter s all r) tt
+        (λ a x i _. let d = falls r t x i in visit-fuel f g x a (omega arith) (omega arith) (omega arith)) (λ _ _ _ _. tt)
 
     pub skip-fuel : (f g r : ℕ) (all : List ℕ) → r < f → r < g → r < rows s → skipVisit s f all r ≡ skipVisit s g all r
     unfolding skipVisit
@@ -219,7 +221,8 @@ module _ (s : List ℕ) where
 pub visit-once : (s : List ℕ) (f r : ℕ) (all : List ℕ) → ((x : ℕ) → count x all ≤ 1) → (x : ℕ) → count x (visit s f all r) ≤ 1
 unfolding visit
 visit-once s zero r all h = h
-visit-once s (suc f) r all h = fold-keeps (visit s f) (λ a. (x : ℕ) → count x a ≤ 1) (shown s r) (enter s all r) (enter-once s all r h) (λ a y _ k. visit-once s f y a k)
+visit-once s (suc f) r all h =
+    fold-keeps (visit s f) (λ a. (x : ℕ) → count x a ≤ 1) (shown s r) (enter s all r) (enter-once s all r h) (λ a y _ k. visit-once s f y a k)
 
 pub visit-kept : (s : List ℕ) (f r : ℕ) (all : List ℕ) (x : ℕ) → In x all → In x (visit s f all r)
 unfolding visit

@@ -2,7 +2,7 @@
 -- Assumes nothing.
 use Prim.Native.Nat.{_+_}
 use native.Mathlib.Omega.{arith}
-use Rattle.sheet.proofs.Laws.{pair-none, pair-low, pair-both}
+use Rattle.sheet.proofs.AccessorLaws.{pair-none, pair-low, pair-both}
 use borrow.Author.Needs.{needs}
 use Rattle.sheet.proofs.pair_at.Statement.{statement}
 use Rattle.sheet.proofs.pair_at.Tie as tie

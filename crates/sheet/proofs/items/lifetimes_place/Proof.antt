@@ -1,7 +1,7 @@
 -- The accessor `sheet::items::lifetimes_place` gives what `lifetimesPlace` of the rules says: by the two branches on `is_type`.
 -- Assumes nothing.
 use borrow.Author.Needs.{needs}
-use Rattle.sheet.proofs.Laws.{place-type, place-other}
+use Rattle.sheet.proofs.AccessorLaws.{place-type, place-other}
 use Rattle.sheet.proofs.items.lifetimes_place.Statement.{statement}
 use Rattle.sheet.proofs.items.lifetimes_place.Tie as tie
 

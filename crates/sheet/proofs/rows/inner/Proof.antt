@@ -1,7 +1,7 @@
 -- The accessor `sheet::rows::inner` gives what `inner` of the rules says: by the two branches on the kind.
 -- Assumes nothing.
 use borrow.Author.Needs.{needs}
-use Rattle.sheet.proofs.Laws.{inner-near, inner-far}
+use Rattle.sheet.proofs.AccessorLaws.{inner-near, inner-far}
 use Rattle.sheet.proofs.rows.inner.Statement.{statement}
 use Rattle.sheet.proofs.rows.inner.Tie as tie
 

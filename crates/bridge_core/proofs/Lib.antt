@@ -1,0 +1,5 @@
+pub mod Windows
+pub mod Parts
+pub mod Whole
+pub mod RunLaws
+pub mod RunCases

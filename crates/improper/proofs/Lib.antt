@@ -1,0 +1,4 @@
+pub mod NameLooks
+pub mod RowLooks
+pub mod PassTurns
+pub mod Passes

@@ -1,0 +1,17 @@
+-- `improper::is_through` meets its contract: the tests are joined as the definition joins them.
+-- Assumes nothing.
+use borrow.Author.Needs.{needs}
+use Rattle.improper.proofs.is_through.Statement.{statement}
+use Rattle.improper.proofs.is_through.Tie as tie
+
+or-requires : tie.Need-or-requires
+or-requires c κs = search needs
+
+or-requires-2 : tie.Need-or-requires-2
+or-requires-2 c κs = search needs
+
+returns : tie.Need-returns
+returns c = rw (c .before .or .ensures) at (c .or2 .ensures)
+
+pub is-through-spec : {M : Type 1} → statement M
+is-through-spec = tie.close (tie.spec or-requires or-requires-2 returns)

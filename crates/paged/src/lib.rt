@@ -1,0 +1,39 @@
+// The one call with a list of its own, by value: for programs and tests, which then need no walk.
+ghost use mathlib.Core.Path.{_≡_};
+ghost use Rattle.paged.specs.Paged.{blank, Packed, Paged};
+use rules::Answer;
+use rules::Diagnostic;
+use rules::Place;
+
+// An answer, and as many records as the program `report` prints.
+pub struct Page {
+    pub answer: Answer,
+    pub list: [Diagnostic; 512],
+}
+
+fn pack(answer: Answer, list: [Diagnostic; 512]) -> Page
+    ensures { λ r. ⌜ Packed answer list r ⌝ }
+{
+    Page { answer, list }
+}
+
+// The call, on a list of one record throughout.
+fn call_on(sheet: &[u8], scratch: &mut [u8], d: Diagnostic) -> Page
+    ensures { λ r. ⌜ Paged (now (sheet .entry)) (now (scratch .entry)) d r (now (scratch .exit)) ⌝ }
+{
+    let mut list = [d; 512];
+    let answer = bridge::call(sheet, scratch, &mut list);
+    pack(answer, list)
+}
+
+// The call, on a list of blank records.
+pub fn call(sheet: &[u8], scratch: &mut [u8]) -> Page
+    ensures { λ r. ⌜ Paged (now (sheet .entry)) (now (scratch .entry)) blank r (now (scratch .exit)) ⌝ }
+{
+    let d = Diagnostic {
+        message: 0,
+        place: Place::I(0),
+        detail: 0,
+    };
+    call_on(sheet, scratch, d)
+}

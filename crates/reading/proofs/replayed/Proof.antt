@@ -1,0 +1,56 @@
+-- `reading::replayed` ends: each turn leaves one sheet fewer, and buf keeps its length.
+-- Assumes nothing.
+use borrow.Author.Needs.{needs}
+use lib.ListN.{length}
+use mathlib.Core.Path.{_≡_}
+use Rattle.reading.proofs.replayed.Statement.{statement}
+use Rattle.reading.proofs.replayed.Tie as tie
+
+abbrev Inv-loop : tie.InvT-loop
+Inv-loop buf₀ count t₀ left₀ buf t left = length buf ≡ length buf₀
+
+abbrev μ-loop : tie.MeasureT-loop
+μ-loop buf₀ count t₀ left₀ buf t left = left
+
+loop-holds : tie.Need-loop-holds Inv-loop μ-loop
+loop-holds c = search needs
+
+sub-left : tie.Need-sub-left Inv-loop μ-loop
+sub-left c = search needs
+
+next-requires : tie.Need-next-requires Inv-loop μ-loop
+next-requires c κs = search needs
+
+same-length : tie.Need-same-length Inv-loop μ-loop
+same-length c = search needs
+
+returns : tie.Need-returns Inv-loop μ-loop
+returns c = search needs
+
+loop-less : tie.Need-loop-less Inv-loop μ-loop
+loop-less c = search needs
+
+loop-again : tie.Need-loop-again Inv-loop μ-loop
+loop-again c = search needs
+
+same-length-2 : tie.Need-same-length-2 Inv-loop μ-loop
+same-length-2 c = search needs
+
+returns-2 : tie.Need-returns-2 Inv-loop μ-loop
+returns-2 c = search needs
+
+pub replayed-spec : {M : Type 1} → statement M
+replayed-spec =
+    tie.close
+    (tie.spec
+    Inv-loop
+    μ-loop
+    loop-holds
+    sub-left
+    next-requires
+    same-length
+    returns
+    loop-less
+    loop-again
+    same-length-2
+    returns-2)

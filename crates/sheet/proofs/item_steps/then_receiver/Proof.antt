@@ -1,0 +1,24 @@
+-- `then_receiver` goes on from a step: by whether that was refused.
+-- Assumes nothing.
+use borrow.Author.Needs.{needs}
+use Rattle.sheet.proofs.item_steps.then_receiver.Statement.{statement}
+use Rattle.sheet.proofs.item_steps.then_receiver.Tie as tie
+
+enum-known-from : tie.Need-enum-known-from
+enum-known-from c = search needs
+
+receiver-requires : tie.Need-receiver-requires
+receiver-requires c κs = search needs
+
+enum-told : tie.Need-enum-told
+enum-told c = search needs
+
+returns : tie.Need-returns
+returns c = rw (c .before .before .from .given .1) (c .receiver .ensures)
+
+returns-2 : tie.Need-returns-2
+returns-2 c = search needs
+
+pub then-receiver-spec : {M : Type 1} → statement M
+then-receiver-spec =
+    tie.close (tie.spec enum-known-from receiver-requires enum-told returns returns-2)

@@ -1,0 +1,5 @@
+pub mod Edges
+pub mod Parts
+pub mod Turns
+pub mod Sorting
+pub mod TierTurns

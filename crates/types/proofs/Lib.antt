@@ -1,0 +1,11 @@
+pub mod AboutRules
+pub mod Stored
+pub mod Zeroed
+pub mod Walking
+pub mod Showing
+pub mod Naming
+pub mod Keys
+pub mod Duplicated
+pub mod Passing
+pub mod Counting
+pub mod Whole

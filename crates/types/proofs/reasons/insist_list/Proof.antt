@@ -1,0 +1,69 @@
+-- `types::reasons::insist_list` meets its contract. The invariant: the reasons of the first j rows are counted.
+-- Assumes nothing.
+use Prim.Native.Nat.{_≤_, _-_}
+use mathlib.Core.Path.{_≡_, _∙_}
+use native.Mathlib.Omega.{arith}
+use Rattle.rules.specs.Base.{over}
+use Rattle.rules.specs.View.{entry}
+use Rattle.types.specs.Reasons.{Counted, ofPlain}
+use Rattle.types.proofs.Counting.{over-none, over-more, over-end}
+use Rattle.types.proofs.reasons.insist_list.Statement.{statement}
+use Rattle.types.proofs.reasons.insist_list.Tie as tie
+
+abbrev Inv-loop : tie.InvT-loop
+Inv-loop s sets reasons₀ at count j₀ reasons j = (j ≤ count) × Counted reasons₀ (over j (λ i. ofPlain s sets (entry s at i))) reasons
+
+abbrev μ-loop : tie.MeasureT-loop
+μ-loop s sets reasons₀ at count j₀ reasons j = count - j
+
+pair-at-requires : tie.Need-pair-at-requires Inv-loop μ-loop
+pair-at-requires c κs = tt
+
+loop-holds : tie.Need-loop-holds Inv-loop μ-loop
+loop-holds c = (omega arith, over-none _)
+
+entry-requires : tie.Need-entry-requires Inv-loop μ-loop
+entry-requires c κs = tt
+
+insist-requires : tie.Need-insist-requires Inv-loop μ-loop
+insist-requires c κs = tt
+
+add-j : tie.Need-add-j Inv-loop μ-loop
+add-j c =
+    let c₃ = c .before .before .before in let c₅ = c₃ .before .before in
+    omega (arith, (c₃ .loop-test .taken), (c₅ .pair-at .ok))
+
+loop-less : tie.Need-loop-less Inv-loop μ-loop
+loop-less c = omega (arith, (c .before .before .before .loop-test .taken))
+
+loop-again : tie.Need-loop-again Inv-loop μ-loop
+loop-again c =
+    let c₁ = c .before in let c₃ = c₁ .before .before in let c₄ = c₃ .before in let c₇ = c₄ .before .before .before in
+    let a = c₇ .args in
+    let e = c₁ .entry .ensures in (
+      omega (arith, (c₃ .loop-test .taken)),
+      over-more (λ j. ofPlain (a .s .now) (a .sets .now) (entry (a .s .now) (a .at) j)) (c₄ .loop .j)
+          (c₄ .loop .inv .1) (rw e at (c .insist .ensures)),
+    )
+
+returns : tie.Need-returns Inv-loop μ-loop
+returns c =
+    let c₁ = c .before in let c₂ = c₁ .before in let c₄ = c₂ .before .before in
+    let a = c₄ .args in
+    let e : (c₁ .loop .j) ≡ (c₂ .pair-at .result) = omega (arith, (c .loop-test .left)) in
+    over-end (λ j. ofPlain (a .s .now) (a .sets .now) (entry (a .s .now) (a .at) j)) (c₁ .loop .j) (c₁ .loop .inv .1) (e ∙ (c₂ .pair-at .ensures))
+
+pub insist-list-spec : {M : Type 1} → statement M
+insist-list-spec =
+    tie.close
+    (tie.spec
+    Inv-loop
+    μ-loop
+    pair-at-requires
+    loop-holds
+    entry-requires
+    insist-requires
+    add-j
+    loop-less
+    loop-again
+    returns)

@@ -1,0 +1,4 @@
+pub mod Scratch
+pub mod Named
+pub mod Reasons
+pub mod Post
