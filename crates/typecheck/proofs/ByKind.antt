@@ -3,13 +3,13 @@
 use Prim.Native.Nat.{ℕ, zero, suc, _<_}
 use mathlib.Core.Path.{_≡_, refl, sym, ap, _∙_}
 use mathlib.Core.List.{List, []}
-use mathlib.Core.Logic.{_⊎_, inl, inr}
+use mathlib.Core.Logic.{inl, inr}
 use mathlib.Core.Bool.{Bool, true, not, _&&_, _||_}
 use lib.Dec.{leb, eqb}
 use lib.ListN.{getD}
-use borrow.Author.Tests.{eq-eqb, eqb-true}
+use borrow.Author.Tests.{eq-eqb}
 use Rattle.rules.specs.Format.{Accepted}
-use Rattle.rules.specs.View.{Struct, CxxFunction, RustFunction, TypeAlias, rows, items, itemKind, itemName, form, isMethod, hasReturn, return}
+use Rattle.rules.specs.View.{Struct, CxxFunction, RustFunction, TypeAlias, rows, items, itemKind, itemName, isMethod, hasReturn, return}
 use Rattle.rules.specs.Types.{Types}
 use Rattle.rules.specs.Check.{no-check, api-checks, check-api}
 use Rattle.laws.proofs.Tests.{never}

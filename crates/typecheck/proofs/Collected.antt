@@ -1,12 +1,11 @@
 -- The tables hold what is collected, so that what was shown of them is what is meant.
 -- Assumes nothing.
 use Prim.Native.Nat.{ℕ, _≤_, _<_}
-use mathlib.Core.Path.{_≡_, refl, sym, ap, _∙_}
+use mathlib.Core.Path.{_≡_, ap, _∙_}
 use mathlib.Core.List.{List}
 use lib.ListN.{length, getD}
 use Rattle.rules.specs.Format.{Accepted}
 use Rattle.rules.specs.View.{rows, items}
-use Rattle.rules.specs.Names.{Words}
 use Rattle.rules.specs.Types.{Types, typesOf}
 use Rattle.names.specs.Table.{wordsAt}
 use Rattle.laws.proofs.Collect.{all-few, all-below}

@@ -4,7 +4,7 @@ ghost use mathlib.Core.List.{List};
 ghost use Prim.Native.Nat.{ℕ, _<_};
 ghost use lib.ListN.{length, getD};
 ghost use lib.Dec.{leb};
-ghost use mathlib.Core.Bool.{not, _&&_};
+ghost use mathlib.Core.Bool.{_&&_};
 ghost use Rattle.rules.specs.declared.Place.the-variants.{I, D};
 ghost use Rattle.rules.specs.Base.{over};
 ghost use Rattle.rules.specs.Diagnostics.{say, tell, when};
@@ -137,8 +137,10 @@ fn check_struct_derive(cx: Errors, out: &mut [u64], i: u16, j: u16, what: u16) -
     ensures { λ e. ⌜ ((s : List ℕ) (t : Types) → what ≡ derive s i j →
         Reported (now (out .entry)) cx (check-struct-derive s t i j) e (now (out .exit))) ⌝ }
 {
-    let cx = derive_error(cx, out, is_bit(what), 29, i, j, 0);
-    derive_error(cx, out, what == EXTERN_TYPE, 30, i, j, 0)
+    let bits = is_bit(what);
+    let external = what == EXTERN_TYPE;
+    let cx = derive_error(cx, out, bits, 29, i, j, 0);
+    derive_error(cx, out, external, 30, i, j, 0)
 }
 
 fn check_struct_derives(s: &[u8], cx: Errors, out: &mut [u64], i: u16) -> Errors

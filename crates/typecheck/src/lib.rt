@@ -2,7 +2,7 @@
 ghost use mathlib.Core.Path.{_≡_};
 ghost use mathlib.Core.List.{List};
 ghost use Prim.Native.Nat.{ℕ, _*_, _<_, _≤_};
-ghost use lib.ListN.{length, getD};
+ghost use lib.ListN.{getD};
 ghost use Rattle.rules.specs.Base.{over};
 ghost use Rattle.rules.specs.Format.{Accepted, pairAt};
 ghost use Rattle.rules.specs.View.{items, rows as rowsOf};

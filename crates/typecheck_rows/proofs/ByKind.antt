@@ -4,7 +4,6 @@ use Prim.Native.Nat.{ℕ, zero, suc}
 use mathlib.Core.Path.{_≡_, refl, ap}
 use mathlib.Core.List.{List, []}
 use lib.ListN.{getD}
-use Rattle.rules.specs.declared.Diagnostic.{Diagnostic}
 use Rattle.rules.specs.View.{kind}
 use Rattle.rules.specs.Types.{Types}
 use Rattle.rules.specs.Check.{no-check, type-checks, check-type}

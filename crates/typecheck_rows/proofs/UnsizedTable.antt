@@ -1,7 +1,7 @@
 -- Which rows are unsized, by one pass upward.
 -- Assumes nothing.
-use Prim.Native.Nat.{ℕ, zero, suc, _+_, _≤_, _<_}
-use mathlib.Core.Path.{_≡_, refl, sym, ap, _∙_}
+use Prim.Native.Nat.{ℕ, suc, _<_}
+use mathlib.Core.Path.{_≡_, refl, sym}
 use mathlib.Core.List.{List}
 use mathlib.Core.Bool.{Bool, true, false}
 use borrow.Author.Tests.{eqb-true}
@@ -11,7 +11,7 @@ use Rattle.rules.specs.View.{Array, rows, kind, is, inner}
 use Rattle.rules.specs.Types.{Types}
 use Rattle.rules.specs.Check.{is-unsized-within, is-unsized}
 use Rattle.laws.proofs.Accepted.Rows.{row-of}
-use Rattle.typecheck_rows.specs.Tables.{marked, UnsizedRows}
+use Rattle.typecheck_rows.specs.Tables.{UnsizedRows}
 use Rattle.typecheck_rows.specs.Tests.{unsizedLeaf, unsizedRow}
 use Rattle.typecheck_rows.proofs.Upward.{Right, Upward}
 

@@ -5,7 +5,7 @@ use Prim.Native.Nat.{ℕ}
 use mathlib.Core.List.{List, _++_}
 use mathlib.Core.Bool.{Bool, not, _&&_, _||_}
 use lib.Dec.{eqb}
-use Rattle.rules.specs.Names.{_∋_, isAtom, nameBool, nameChar, nameCxxString, nameRustString}
+use Rattle.rules.specs.Names.{_∋_, isAtom}
 use Rattle.rules.specs.declared.Place.the-variants.{R, G}
 use Rattle.rules.specs.declared.Diagnostic.{Diagnostic}
 use Rattle.rules.specs.Base.{if_then_else_}

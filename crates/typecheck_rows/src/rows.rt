@@ -1,6 +1,6 @@
 // The other kinds of rows, messages 3 and 18 to 26, and the first `match` of `do_typecheck`.
 ghost use mathlib.Core.Path.{_≡_};
-ghost use mathlib.Core.Bool.{not, _&&_, _||_};
+ghost use mathlib.Core.Bool.{_||_};
 ghost use Prim.Native.Nat.{_<_};
 ghost use Rattle.rules.specs.Base.{over};
 ghost use Rattle.rules.specs.Diagnostics.{bit};

@@ -3,7 +3,6 @@ use borrow.Author.Needs.{needs}
 use mathlib.Core.Path.{refl, sym, _∙_}
 use Rattle.rules.specs.Check.{api-checks}
 use Rattle.errors.specs.Sink.{meant, none}
-use Rattle.typecheck_rows.specs.Tables.{holding}
 use Rattle.typecheck.specs.Tables.{withUntrusted, withLastType, withReasons, tabled}
 use Rattle.typecheck.proofs.ByKind.{by-kind, nothing, named, function-of, fields-below, return-below, self-named}
 use Rattle.typecheck.proofs.check_api.Statement.{statement}

@@ -1,12 +1,11 @@
 -- `typecheck::check_apis` meets its contract: the items before j have given their messages. Assumes nothing.
 use borrow.Author.Needs.{needs}
-use Prim.Native.Nat.{ℕ, _≤_, _<_, _-_, _*_}
+use Prim.Native.Nat.{_≤_, _-_}
 use mathlib.Core.Path.{_≡_, refl, _∙_}
-use mathlib.Core.List.{List}
 use native.Mathlib.Omega.{arith}
-use lib.ListN.{length, getD}
+use lib.ListN.{length}
 use Rattle.rules.specs.Base.{over}
-use Rattle.rules.specs.Format.{Accepted, pairAt}
+use Rattle.rules.specs.Format.{Accepted}
 use Rattle.rules.specs.Types.{Types}
 use Rattle.rules.specs.Check.{check-api}
 use Rattle.errors.specs.Sink.{Reported, start, turn, whole}

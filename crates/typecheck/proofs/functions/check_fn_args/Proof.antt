@@ -1,14 +1,13 @@
 -- `typecheck::functions::check_fn_args` meets its contract: the arguments before j have given their messages. Assumes nothing.
 use borrow.Author.Needs.{needs}
 use Prim.Native.Nat.{_≤_, _-_}
-use mathlib.Core.Path.{_≡_, refl, _∙_}
+use mathlib.Core.Path.{_≡_, refl, _∙_, ap}
 use native.Mathlib.Omega.{arith}
 use lib.ListN.{length}
 use Rattle.rules.specs.Base.{over}
 use Rattle.rules.specs.Types.{Types}
 use Rattle.rules.specs.View.{arg, argCount}
 use Rattle.errors.specs.Sink.{Reported, start, turn, whole}
-use mathlib.Core.Path.{ap}
 use mathlib.Core.Bool.{not}
 use Rattle.rules.specs.Check.{check-fn-arg}
 use Rattle.typecheck_rows.specs.Tables.{holding, UnsizedRows}

@@ -1,6 +1,5 @@
 -- `typecheck::functions::check_fn_generics` meets its contract: each test that the code makes is that of the definition. Assumes nothing.
 use borrow.Author.Needs.{needs}
-use Rattle.rules.specs.Diagnostics.{when}
 use Rattle.errors.specs.Sink.{taken, left, meant-if}
 use Rattle.rules.specs.Check.{check-fn-generics}
 use Rattle.typecheck.proofs.functions.check_fn_generics.Statement.{statement}

@@ -7,7 +7,6 @@ use lib.ListN.{length}
 use Rattle.rules.specs.Base.{over}
 use Rattle.rules.specs.declared.Place.the-variants.{D}
 use Rattle.rules.specs.Diagnostics.{say, when}
-use Rattle.rules.specs.View.{deriveCount}
 use Rattle.errors.specs.Sink.{Reported, start, turn, whole}
 use Rattle.typecheck.proofs.items.check_alias_derives.Statement.{statement}
 use Rattle.typecheck.proofs.items.check_alias_derives.Tie as tie

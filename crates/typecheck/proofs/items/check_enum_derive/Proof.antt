@@ -2,6 +2,7 @@
 use borrow.Author.Needs.{needs}
 use Rattle.errors.specs.Sink.{also-if, meant-if}
 use Rattle.rules.specs.Check.{check-enum-derive}
+use Rattle.typecheck_rows.proofs.Details.{detailed}
 use Rattle.typecheck.proofs.items.check_enum_derive.Statement.{statement}
 use Rattle.typecheck.proofs.items.check_enum_derive.Tie as tie
 
@@ -23,7 +24,7 @@ returns c = λ s t q d.
     let and = c .before .before .before .before .before .before .before .before .and in
     let derive-error = c .before .before .before .before .before .before .derive-error in
     let derive-error2 = c .before .before .derive-error2 in
-    also-if _ (meant-if _ (rw d at (derive-error .ensures)) (rw (q, d) at (and .ensures))) (derive-error2 .ensures) (rw q)
+    also-if _ (meant-if _ (detailed _ _ _ (derive-error .ensures) d) (rw (q, d) at (and .ensures))) (derive-error2 .ensures) (rw q)
 
 pub check-enum-derive-spec : {M : Type 1} → statement M
 check-enum-derive-spec =

@@ -1,5 +1,6 @@
 -- `typecheck::items::check_required_trivial` meets its contract: the test is that of the definition. Assumes nothing.
 use borrow.Author.Needs.{needs}
+use Prim.Native.Nat.{_<_}
 use Rattle.errors.specs.Sink.{meant-if}
 use Rattle.typecheck.proofs.items.check_required_trivial.Statement.{statement}
 use Rattle.typecheck.proofs.items.check_required_trivial.Tie as tie
@@ -25,8 +26,9 @@ returns c = λ l.
     let has = c .before .before .before .before .has in
     let count-of = c .before .before .before .count-of in
     let item-error = c .before .before .item-error in
-    meant-if _ (rw (count-of .ensures (rw (item-name .ensures) l), item-name .ensures) at (item-error .ensures))
-    (rw (item-name .ensures) at (has .ensures))
+    let name = item-name .ensures in
+    let named : item-name .result < 256 = rw name l in
+    meant-if _ (rw (count-of .ensures named, name) at (item-error .ensures)) (rw name at (has .ensures))
 
 pub check-required-trivial-spec : {M : Type 1} → statement M
 check-required-trivial-spec =

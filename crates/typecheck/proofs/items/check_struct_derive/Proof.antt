@@ -20,7 +20,7 @@ same-length c = search needs
 returns : tie.Need-returns
 unfolding check-struct-derive
 returns c = λ s t q.
-    let is-bit = c .before .before .before .before .before .before .before .is-bit in
+    let is-bit = c .before .before .before .before .before .before .before .before .is-bit in
     let derive-error = c .before .before .before .before .before .before .derive-error in
     let derive-error2 = c .before .before .derive-error2 in
     also-if _ (meant-if _ (derive-error .ensures) (rw q at (is-bit .ensures))) (derive-error2 .ensures) (rw q)

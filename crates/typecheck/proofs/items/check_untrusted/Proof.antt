@@ -1,8 +1,7 @@
 -- `typecheck::items::check_untrusted` meets its contract: inside the table the item does not depend on the value past its end. Assumes nothing.
 use borrow.Author.Needs.{needs}
-use mathlib.Core.Path.{_≡_, _∙_}
-use native.Mathlib.Omega.{arith}
-use lib.ListN.{getD}
+use Prim.Native.Nat.{_<_}
+use mathlib.Core.Path.{_∙_}
 use Rattle.errors.specs.Sink.{meant-if}
 use Rattle.typecheck.proofs.Below.{getD-any}
 use Rattle.typecheck.proofs.items.check_untrusted.Statement.{statement}
@@ -38,8 +37,10 @@ returns c = λ l u.
     let and = c .before .before .before .before .before .and in
     let item-of = c .before .before .before .item-of in
     let item-error = c .before .before .item-error in
-    let e = item-of .ensures (rw (item-name .ensures) l) ∙ getD-any (args .untrusted .now) (item-name .result) 0 255 (rw (item-name .ensures, u) l) in
-    meant-if _ (rw (e, item-name .ensures) at (item-error .ensures)) (rw (has .ensures, has2 .ensures, item-name .ensures) at (and .ensures))
+    let name = item-name .ensures in
+    let named : item-name .result < 256 = rw name l in
+    let item = item-of .ensures named ∙ getD-any (args .untrusted .now) (item-name .result) 0 255 (rw u named) in
+    meant-if _ (rw (item, name) at (item-error .ensures)) (rw (has .ensures, has2 .ensures, name) at (and .ensures))
 
 pub check-untrusted-spec : {M : Type 1} → statement M
 check-untrusted-spec =

@@ -1,10 +1,9 @@
 -- `typecheck::mut_return::any_marked_arg` meets its contract: found says whether one before j is marked. Assumes nothing.
 use borrow.Author.Needs.{needs}
-use Prim.Native.Nat.{_≤_, _-_, _+_}
+use Prim.Native.Nat.{_≤_, _-_, _+_, ℕ}
 use mathlib.Core.Path.{_≡_, refl, _∙_, ap}
 use mathlib.Core.List.{[], _∷_}
 use native.Mathlib.Omega.{arith}
-use Prim.Native.Nat.{ℕ}
 use Rattle.rules.specs.Base.{over, anyOf}
 use Rattle.rules.specs.View.{entry, entries}
 use Rattle.typecheck_rows.specs.Tables.{marked}

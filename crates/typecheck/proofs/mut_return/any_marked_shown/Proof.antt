@@ -1,9 +1,10 @@
 -- `typecheck::mut_return::any_marked_shown` meets its contract: what its calls ensure, put together. Assumes nothing.
 use borrow.Author.Needs.{needs}
-use mathlib.Core.Path.{refl, sym, ap, _∙_}
+use mathlib.Core.Path.{_≡_, sym, _∙_}
+use mathlib.Core.Bool.{true, false}
 use borrow.Author.Tests.{ne-eqb}
 use Rattle.rules.specs.Base.{anyOf}
-use Rattle.laws.proofs.Collect.Shown.{shown-leaf, shown-inner}
+use Rattle.laws.proofs.Collect.Shown.{leaf, shown-leaf, shown-inner}
 use Rattle.typecheck_rows.specs.Tables.{marked}
 use Rattle.typecheck.proofs.Visitor.{any-one, any-fn}
 use Rattle.typecheck.proofs.mut_return.any_marked_shown.Statement.{statement}
@@ -24,7 +25,8 @@ returns c =
     let kind = c .before .before .before .kind in
     let or = c .before .before .or in
     let or2 = c .before .or2 in
-    rw (shown-leaf _ _ _ (sym (rw (or .ensures) at (or2 .ensures)) ∙ c .if1 .taken) (sym (kind .ensures)), anyOf)
+    let is-leaf : leaf (kind .result) ≡ true = sym (rw (or .ensures) at (or2 .ensures)) ∙ c .if1 .taken in
+    rw (shown-leaf _ _ _ is-leaf (sym (kind .ensures)), anyOf)
 
 fn-return-requires : tie.Need-fn-return-requires
 fn-return-requires c κs = search needs
@@ -78,8 +80,8 @@ returns-3 c =
     let if1 = c .before .before .before .if1 in
     let if2 = c .before .before .if2 in
     let inner = c .before .inner in
-    rw (shown-inner _ _ _ (sym (rw (or .ensures) at (or2 .ensures)) ∙ if1 .left) (ne-eqb _ _ (if2 .left)) (sym (kind .ensures)), any-one)
-    (rw (inner .ensures) at (c .marked .ensures))
+    let is-leaf : leaf (kind .result) ≡ false = sym (rw (or .ensures) at (or2 .ensures)) ∙ if1 .left in
+    rw (shown-inner _ _ _ is-leaf (ne-eqb _ _ (if2 .left)) (sym (kind .ensures)), any-one) (rw (inner .ensures) at (c .marked .ensures))
 
 pub any-marked-shown-spec : {M : Type 1} → statement M
 any-marked-shown-spec =

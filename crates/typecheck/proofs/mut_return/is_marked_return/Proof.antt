@@ -1,6 +1,5 @@
 -- `typecheck::mut_return::is_marked_return` meets its contract: what its calls ensure, put together. Assumes nothing.
 use borrow.Author.Needs.{needs}
-use mathlib.Core.Path.{refl, sym, ap, _∙_}
 use borrow.Author.Tests.{eq-eqb, ne-eqb}
 use Rattle.rules.specs.Base.{if_then_else_, anyOf}
 use Rattle.rules.specs.View.{orNothing}

@@ -1,7 +1,7 @@
 -- `typecheck::mut_return::lifetime_mut_rows` meets its contract: the entries below r are right, and the next is decided by them. Assumes nothing.
 use borrow.Author.Needs.{needs}
-use Prim.Native.Nat.{ℕ, _≤_, _<_, _-_}
-use mathlib.Core.Path.{_≡_, refl, ap, _∙_}
+use Prim.Native.Nat.{ℕ, _≤_, _-_}
+use mathlib.Core.Path.{_≡_, ap, _∙_}
 use native.Mathlib.Omega.{arith}
 use lib.ListN.{length, length-replicate, length-set}
 use Rattle.rules.specs.Diagnostics.{bit}

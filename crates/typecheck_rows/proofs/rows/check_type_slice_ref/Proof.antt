@@ -1,9 +1,11 @@
 -- `typecheck_rows::rows::check_type_slice_ref` meets its contract: the test is that of the definition. Assumes nothing.
 use borrow.Author.Needs.{needs}
 use Rattle.errors.specs.Sink.{meant-if}
-use mathlib.Core.Path.{ap}
+use mathlib.Core.Path.{ap, _∙_}
 use mathlib.Core.Bool.{not}
 use Rattle.rules.specs.Check.{check-type-slice-ref}
+use Rattle.rules.specs.Diagnostics.{bit}
+use Rattle.typecheck_rows.proofs.Details.{detailed}
 use Rattle.typecheck_rows.proofs.rows.check_type_slice_ref.Statement.{statement}
 use Rattle.typecheck_rows.proofs.rows.check_type_slice_ref.Tie as tie
 
@@ -27,9 +29,9 @@ unfolding check-type-slice-ref
 returns c = λ t u l.
     let is-slice-element = c .before .before .before .before .before .before .is-slice-element in
     let is-opaque-element = c .before .before .before .before .before .is-opaque-element in
-    let bit = c .before .before .before .bit in
+    let made = c .before .before .before .bit in
     let row-error = c .before .before .row-error in
-    meant-if _ (rw (bit .ensures, is-opaque-element .ensures) at (row-error .ensures)) (ap not (is-slice-element .ensures t u l))
+    meant-if _ (detailed _ _ _ (row-error .ensures) (made .ensures ∙ ap bit (is-opaque-element .ensures))) (ap not (is-slice-element .ensures t u l))
 
 pub check-type-slice-ref-spec : {M : Type 1} → statement M
 check-type-slice-ref-spec =

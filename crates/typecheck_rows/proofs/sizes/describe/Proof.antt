@@ -1,9 +1,7 @@
 -- `typecheck_rows::sizes::describe` meets its contract: each test that the code makes is that of the definition. Assumes nothing.
 use borrow.Author.Needs.{needs}
 use Rattle.typecheck_rows.proofs.Branches.{if-taken, if-left}
-use mathlib.Core.Path.{_∙_, sym, ap}
 use borrow.Author.Tests.{eq-eqb, ne-eqb}
-use lib.Dec.{eqb}
 use Rattle.rules.specs.View.{is}
 use Rattle.rules.specs.Check.{describe}
 use Rattle.typecheck_rows.specs.Tests.{describeOther}

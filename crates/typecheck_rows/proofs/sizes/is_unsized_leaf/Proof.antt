@@ -1,7 +1,6 @@
 -- `typecheck_rows::sizes::is_unsized_leaf` meets its contract: each test that the code makes is that of the definition. Assumes nothing.
 use borrow.Author.Needs.{needs}
 use Rattle.typecheck_rows.proofs.Branches.{if-taken, if-left}
-use mathlib.Core.Path.{_∙_}
 use Rattle.typecheck_rows.specs.Tests.{unsizedLeaf}
 use Rattle.typecheck_rows.proofs.sizes.is_unsized_leaf.Statement.{statement}
 use Rattle.typecheck_rows.proofs.sizes.is_unsized_leaf.Tie as tie

@@ -1,8 +1,10 @@
 -- `typecheck_rows::targets::check_type_rust_vec` meets its contract: a Box inside gives its own messages, at its own row. Assumes nothing.
 use borrow.Author.Needs.{needs}
-use Rattle.errors.specs.Sink.{taken, left, none}
-use Rattle.rules.specs.Check.{check-type-rust-vec}
+use Rattle.errors.specs.Sink.{meant, taken, left, none}
+use Rattle.rules.specs.Check.{check-type-box, check-type-rust-vec}
 use Rattle.rules.specs.Diagnostics.{when}
+use mathlib.Core.Path.{ap}
+use Rattle.typecheck_rows.specs.Tables.{holding}
 use Rattle.typecheck_rows.proofs.targets.check_type_rust_vec.Statement.{statement}
 use Rattle.typecheck_rows.proofs.targets.check_type_rust_vec.Tie as tie
 
@@ -72,10 +74,10 @@ returns-4 c = λ t.
     let inner = c .before .before .before .before .before .before .inner in
     let is = c .before .before .before .before .before .is in
     let if4 = c .before .before .before .before .if4 in
-    let check-type-box = c .before .before .check-type-box in
+    let box = c .before .before .check-type-box in
     left _ _ (if1 .left) (left _ _ (if2 .left)
-    (left _ _ (if3 .left) (taken _ _ (if4 .taken) (rw (inner .ensures) at (check-type-box .ensures t)) (rw (inner .ensures) at (is .ensures)))
-    (target-is .ensures)) (is-vec-element .ensures)) (is-cxx-target .ensures)
+    (left _ _ (if3 .left) (taken _ _ (if4 .taken) (meant (box .ensures t) (ap (check-type-box _ (holding _ t)) (inner .ensures)))
+    (rw (inner .ensures) at (is .ensures))) (target-is .ensures)) (is-vec-element .ensures)) (is-cxx-target .ensures)
 
 row-error-requires-2 : tie.Need-row-error-requires-2
 row-error-requires-2 c κs = search needs
