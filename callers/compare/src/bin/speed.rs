@@ -1,0 +1,286 @@
+//! `speed [SHEETS]`: times the whole call beside the original Rust, on accepted sheets of 32,768 bytes and on sheets made to be slow, and
+//! measures the stack. The Rust has its trees built beforehand and is timed for `Types::collect` and `do_typecheck` alone; the port is timed
+//! for everything, reading included. Best of several runs each. `speed --loop NAME` calls the port over and over, for a profiler.
+
+use compare::Expected;
+use oracle::generate::{Draft, PROFILES, Profile};
+use oracle::judge;
+use oracle::sheet::MAX_BYTES;
+use std::hint::black_box;
+use std::mem::MaybeUninit;
+use std::time::{Duration, Instant};
+
+const RUNS: usize = 15;
+/// Room for so many records.
+const LISTS: [usize; 2] = [512, 4096];
+
+fn us(time: Duration) -> f64 {
+    time.as_nanos() as f64 / 1000.0
+}
+
+/// The scratch is full of old bytes before each run, which is not timed; each call clears it at its end, which is.
+fn timed(mut call: impl FnMut(&mut [u8])) -> Duration {
+    let mut scratch = [0; 4096];
+    let run = |_| {
+        scratch.fill(0xA5);
+        let start = Instant::now();
+        call(black_box(&mut scratch));
+        start.elapsed()
+    };
+    (0..RUNS).map(run).min().expect("a run")
+}
+
+fn port(sheet: &[u8], out: &mut [u8]) -> Duration {
+    timed(|scratch| {
+        black_box(tirvouez::check(black_box(sheet), scratch, 0, out));
+    })
+}
+
+/// All records, by as many calls as it takes.
+fn port_all(sheet: &[u8]) -> Duration {
+    let mut out = vec![0; 1312 + 8 * 4096];
+    timed(|scratch| {
+        let mut from = 0;
+        loop {
+            let bytes = tirvouez::check(black_box(sheet), scratch, from, &mut out);
+            from += (bytes - 1312) / 8;
+            if bytes == 1312 || from >= u32::from_le_bytes([out[8], out[9], out[10], out[11]]) as usize {
+                break;
+            }
+        }
+    })
+}
+
+fn rust(sheet: &[u8]) -> Option<Duration> {
+    (0..RUNS).map(|_| judge::bench(sheet).map(|(time, _)| time)).collect::<Option<Vec<_>>>()?.into_iter().min()
+}
+
+const STACK: usize = 2 << 20;
+const MARK: u8 = 0xC7;
+
+#[inline(never)]
+fn paint() {
+    let mut bytes = [MARK; STACK];
+    black_box(&mut bytes);
+}
+
+/// How much of what `paint` left has been written over, from the near end.
+#[inline(never)]
+fn painted_over() -> usize {
+    let bytes: MaybeUninit<[u8; STACK]> = MaybeUninit::uninit();
+    let start = black_box(bytes.as_ptr()).cast::<u8>();
+    // The far end of the stack is the low one.
+    let kept = (0..STACK).take_while(|&at| unsafe { start.add(at).read_volatile() } == MARK).count();
+    STACK - kept
+}
+
+/// Bytes of stack that one call takes.
+fn stack(sheet: &[u8], out: &mut [u8]) -> usize {
+    let mut scratch = [0; 4096];
+    paint();
+    let idle = painted_over();
+    paint();
+    black_box(tirvouez::check(sheet, &mut scratch, 0, out));
+    painted_over().saturating_sub(idle)
+}
+
+/// Sheets that are made to be slow, each with what it is.
+fn worst() -> Vec<(&'static str, Vec<u8>)> {
+    let full = |draft: &Draft| draft.len() <= MAX_BYTES;
+    let mut sheets = Vec::new();
+    // 219 structs of as many fields as fit, each the next structs by value, or the ones before
+    for (about, ahead) in [("structs, fields are the next 63 structs", true), ("structs, fields are the 63 before", false)] {
+        let mut draft = Draft::new();
+        let rows: Vec<u16> = (24..=255).map(|name| draft.name(name)).collect();
+        for i in 0..rows.len() {
+            let fields: Vec<u16> =
+                if ahead { rows[i + 1..].iter().take(63).copied().collect() } else { rows[..i].iter().rev().take(63).copied().collect() };
+            draft.strct(24 + i as u16, &fields);
+            if !full(&draft) {
+                draft.items.pop();
+                break;
+            }
+        }
+        sheets.push((about, draft.bytes()));
+    }
+    // every struct has every struct: one big knot
+    let mut draft = Draft::new();
+    let rows: Vec<u16> = (24..=87).map(|name| draft.name(name)).collect();
+    for i in 0..230 {
+        draft.strct(24 + (i % 64), &rows);
+        if !full(&draft) {
+            draft.items.pop();
+            break;
+        }
+    }
+    sheets.push(("64 names, every struct has a field of each", draft.bytes()));
+    // a chain of 232 structs, one field each
+    let mut draft = Draft::new();
+    let rows: Vec<u16> = (24..=255).map(|name| draft.name(name)).collect();
+    for i in 0..rows.len() {
+        draft.strct(24 + i as u16, &rows[i + 1..].iter().take(1).copied().collect::<Vec<_>>());
+    }
+    sheets.push(("chain of 232 structs", draft.bytes()));
+    // rows over rows, 140 deep (10,000 nodes), all used by fields
+    for (about, front) in [("structs over references, 135 deep", vec![7, 1]), ("structs over arrays, 135 deep", vec![11, 3]), ("structs over boxes, 135 deep", vec![1])] {
+        let mut draft = Draft::new();
+        let mut last = draft.name(24);
+        let mut rows = vec![last];
+        for _ in 0..134 {
+            let mut row = front.clone();
+            row.push(last);
+            last = draft.row(&row);
+            rows.push(last);
+        }
+        while draft.items.len() < 220 {
+            let fields: Vec<u16> = rows.iter().rev().take(64).copied().collect();
+            draft.strct(24 + (draft.items.len() % 200) as u16, &fields);
+            if !full(&draft) {
+                draft.items.pop();
+                break;
+            }
+        }
+        sheets.push((about, draft.bytes()));
+    }
+    // 255 functions of 16 arguments
+    for (about, flags, form) in [("255 functions of 16 arguments", 0, vec![0]), ("255 methods, lifetimes, &mut return", 2, vec![2, 30, 0])] {
+        let mut draft = Draft::new();
+        let rows: Vec<u16> = (20..60).map(|name| draft.name(name)).collect();
+        let more: Vec<u16> = rows.iter().map(|&row| draft.row(&[7, 1, row])).collect();
+        for i in 0..255u16 {
+            let args: Vec<u16> = (0..16).map(|j| if j % 2 == 0 { more[usize::from(i + j) % 40] } else { rows[usize::from(i + j) % 40] }).collect();
+            let kind = if i % 2 == 0 { 5 } else { 6 };
+            draft.item(&[&[kind, i, flags, 0], &form, &[more[usize::from(i) % 40], 16], &args]);
+        }
+        sheets.push((about, draft.bytes()));
+    }
+    // Fn rows of 16 arguments
+    let mut draft = Draft::new();
+    let names: Vec<u16> = (0..60).map(|name| draft.name(name)).collect();
+    let mut functions = Vec::new();
+    for i in 0..570usize {
+        let args: Vec<u16> = (0..16).map(|j| names[(i * (j + 1) + j) % 60]).collect();
+        functions.push(draft.row(&[&[12, 0, names[i % 60], 16][..], &args].concat()));
+    }
+    for i in 0..255 {
+        let fields: Vec<u16> = (0..12).map(|j| functions[(i * 12 + j) % functions.len()]).collect();
+        draft.strct(24 + (i % 200) as u16, &fields);
+        if !full(&draft) {
+            draft.items.pop();
+            break;
+        }
+    }
+    sheets.push(("rows of functions with 16 arguments", draft.bytes()));
+    // 1,024 rows and impls of all
+    let mut draft = Draft::new();
+    for name in 0..=255 {
+        draft.name(name);
+    }
+    for kind in 1..=3 {
+        for row in 0..256 {
+            draft.row(&[kind, row]);
+        }
+    }
+    for i in 0..255u16 {
+        draft.item(&[&[8, 256 + i * 3, 0, 0]]);
+    }
+    sheets.push(("1,024 rows, 255 impls", draft.bytes()));
+    // 255 enums of one name with all derives
+    let mut draft = Draft::new();
+    let repr = draft.name(3);
+    for i in 0..255u16 {
+        draft.item(&[&[2, 24 + i % 8, 8, 1, 2, 3, 4, 5, 6, 7, 8, 16], &(0..16).map(|d| d % 15).collect::<Vec<u16>>(), &[repr, 1, 255, 255]]);
+    }
+    sheets.push(("255 enums, 16 derives and 8 lifetimes each", draft.bytes()));
+    sheets
+}
+
+struct Line {
+    rust: Option<Duration>,
+    lists: Vec<Duration>,
+    all: Duration,
+    records: usize,
+    stack: usize,
+}
+
+fn measure(sheet: &[u8]) -> Option<Line> {
+    let mut out = vec![0; 1312 + 8 * 4096];
+    let mut scratch = [0; 4096];
+    tirvouez::check(sheet, &mut scratch, 0, &mut out);
+    if out[0] != 0 {
+        return None;
+    }
+    let records = u32::from_le_bytes([out[8], out[9], out[10], out[11]]) as usize;
+    let lists = LISTS.iter().map(|&count| port(sheet, &mut out[..1312 + 8 * count])).collect();
+    Some(Line { rust: rust(sheet), lists, all: port_all(sheet), records, stack: stack(sheet, &mut out) })
+}
+
+fn profile(profile: &Profile, sheets: u64) {
+    let lines: Vec<Line> = (0..sheets).map(|number| profile.sheet(7, number)).filter(|sheet| sheet.len() == MAX_BYTES).filter_map(|sheet| measure(&sheet)).collect();
+    let count = lines.len();
+    if count == 0 {
+        return;
+    }
+    let sum = |time: &dyn Fn(&Line) -> Duration| us(lines.iter().map(time).sum::<Duration>()) / count as f64;
+    let most = |time: &dyn Fn(&Line) -> Duration| us(lines.iter().map(time).max().unwrap());
+    let rust = |line: &Line| line.rust.unwrap_or_default();
+    let ratio = lines.iter().map(|line| us(line.lists[1]) / us(rust(line))).fold(0.0, f64::max);
+    println!(
+        "{:12} {count:4} sheets {:7} records | Rust mean {:8.1} max {:8.1} | port 512: {:7.1} {:7.1} | 4096: {:7.1} {:7.1} | all: {:7.1} {:7.1} | worst port/Rust {ratio:.3} | stack {}",
+        profile.name,
+        lines.iter().map(|line| line.records).sum::<usize>() / count,
+        sum(&rust), most(&rust),
+        sum(&|l| l.lists[0]), most(&|l| l.lists[0]),
+        sum(&|l| l.lists[1]), most(&|l| l.lists[1]),
+        sum(&|l| l.all), most(&|l| l.all),
+        lines.iter().map(|line| line.stack).max().unwrap(),
+    );
+}
+
+fn run(sheets: u64) {
+    for name in ["full-none", "full-mixed", "full-many"] {
+        profile(Profile::find(name).expect("a profile"), sheets);
+    }
+    for one in &PROFILES {
+        if !one.name.starts_with("full") {
+            profile(one, 40);
+        }
+    }
+    for (about, sheet) in worst() {
+        let Some(line) = measure(&sheet) else {
+            println!("{about}: refused");
+            continue;
+        };
+        let expected = Expected::of(&sheet).map_or("not judged", |expected| if expected.records.len() == line.records { "same total" } else { "DIFFERS" });
+        println!(
+            "{about:44} {:6} bytes {:6} records | Rust {:8.1} | port 512: {:7.1} | 4096: {:7.1} | all: {:7.1} | stack {} | {expected}",
+            sheet.len(), line.records, line.rust.map_or(0.0, us), us(line.lists[0]), us(line.lists[1]), us(line.all), line.stack
+        );
+    }
+}
+
+/// For a profiler: the port alone, for some seconds.
+fn again(name: &str) {
+    let sheets: Vec<Vec<u8>> = match Profile::find(name) {
+        Some(profile) => (0..20).map(|number| profile.sheet(7, number)).collect(),
+        None => worst().into_iter().filter(|(about, _)| about.contains(name)).map(|(_, sheet)| sheet).collect(),
+    };
+    let mut out = vec![0; 1312 + 8 * 4096];
+    let mut scratch = [0; 4096];
+    let start = Instant::now();
+    while start.elapsed() < Duration::from_secs(4) {
+        for sheet in &sheets {
+            black_box(tirvouez::check(sheet, &mut scratch, 0, &mut out));
+        }
+    }
+}
+
+fn main() {
+    let args: Vec<String> = std::env::args().skip(1).collect();
+    let work = move || match &args[..] {
+        [option, name] if option == "--loop" => again(name),
+        [sheets] => run(sheets.parse().expect("a count")),
+        _ => run(100),
+    };
+    std::thread::Builder::new().stack_size(64 << 20).spawn(work).expect("a thread").join().expect("an end");
+}
