@@ -28,7 +28,7 @@ fn print_refusal(number: u8, position: usize) {
     end_line();
 }
 
-fn print_answer(answer: Answer, structs: usize, codes: &[u64; 512]) {
+fn print_answer(answer: Answer, structs: u16, codes: &[u64; 512]) {
     io::write_all(1, b"accepted");
     print_number(answer.total as u64);
     end_line();
@@ -53,69 +53,60 @@ fn print_number(n: u64) {
 }
 
 // How many struct items a sheet has.
-fn count_structs(s: &[u8]) -> usize {
-    let items = sheet::items::items(s);
-    let mut n: usize = 0;
-    let mut i: u16 = 0;
-    while i < items {
-        if sheet::items::item_is(s, 1, i) {
-            n += 1;
-        }
-        i += 1;
+fn count_structs(s: &[u8]) -> u16 {
+    let mut n: u16 = 0;
+    for i in 0..sheet::items::items(s) {
+        n = plus_if(n, sheet::items::item_is(s, 1, i));
     }
     n
 }
 
-fn print_order(order: &[u8; 255], structs: usize) {
+fn plus_if(n: u16, yes: bool) -> u16 {
+    if !yes {
+        return n;
+    }
+    if n < 255 { n + 1 } else { n }
+}
+
+// Place k of a list of 255 bytes, 0 past its end.
+fn byte_at(list: &[u8; 255], k: usize) -> u8 {
+    if k < 255 { list[k] } else { 0 }
+}
+
+fn print_order(order: &[u8; 255], structs: u16) {
     io::write_all(1, b"order");
-    let mut k = 0;
-    while k < 255 {
-        if k < structs {
-            print_number(order[k] as u64);
-        }
-        k += 1;
+    for k in 0..structs {
+        print_number(byte_at(order, k as usize) as u64);
     }
     end_line();
 }
 
-// The tier of item i.
-fn tier_of(tiers: &[u8; 255], i: u8) -> u64 {
-    let at = i as usize;
-    if at < 255 { tiers[at] as u64 } else { 0 }
-}
-
 // In the sequence of the order.
-fn print_tiers(order: &[u8; 255], tiers: &[u8; 255], structs: usize) {
+fn print_tiers(order: &[u8; 255], tiers: &[u8; 255], structs: u16) {
     io::write_all(1, b"tiers");
-    let mut k = 0;
-    while k < 255 {
-        if k < structs {
-            print_number(tier_of(tiers, order[k]));
-        }
-        k += 1;
+    for k in 0..structs {
+        let item = byte_at(order, k as usize);
+        print_number(byte_at(tiers, item as usize) as u64);
     }
     end_line();
 }
 
 fn print_improper(set: NameSet) {
     io::write_all(1, b"improper");
-    let mut name: u16 = 0;
-    while name < 256 {
+    for name in 0..256 {
         if names::contains(set, name) {
             print_number(name as u64);
         }
-        name += 1;
     }
     end_line();
 }
 
+// As many as there are, and have room in the codes.
 fn print_records(codes: &[u64; 512], total: usize) {
-    let mut k = 0;
-    while k < 512 {
+    for k in 0..512 {
         if k < total {
             print_record(errors::codes::record(codes[k]));
         }
-        k += 1;
     }
 }
 
