@@ -1,4 +1,4 @@
--- `reading::take` counts what it read, within buf: a part that comes back is as long as it was lent.
+-- `replay::input::take` counts what it read, within buf: a part that comes back is as long as it was lent.
 -- Assumes nothing.
 use Prim.Native.Nat.{ℕ, _≤_}
 use mathlib.Core.Path.{sym}
@@ -8,8 +8,8 @@ use lib.ListN.{length, drop, length-append}
 use lib.Seq.{length-take-le}
 use Rattle.io.specs.Counts.{Counts}
 use borrow.Author.Needs.{needs}
-use Rattle.reading.proofs.take.Statement.{statement}
-use Rattle.reading.proofs.take.Tie as tie
+use Rattle.replay.proofs.input.take.Statement.{statement}
+use Rattle.replay.proofs.input.take.Tie as tie
 
 -- what is counted of a part is counted of the whole
 counted : (r : ℕ) (xs ys : List ℕ) → r ≤ length xs → Counts r (xs ++ ys)

@@ -1,22 +1,19 @@
--- `reading::replayed` ends: each turn leaves one sheet fewer, and buf keeps its length.
--- Assumes nothing.
+-- `replay::replayed` ends: each turn leaves one sheet fewer, and buf keeps its length. Assumes nothing.
 use borrow.Author.Needs.{needs}
+use Prim.Native.Nat.{_-_, _≤_}
 use lib.ListN.{length}
 use mathlib.Core.Path.{_≡_}
-use Rattle.reading.proofs.replayed.Statement.{statement}
-use Rattle.reading.proofs.replayed.Tie as tie
+use Rattle.replay.proofs.replayed.Statement.{statement}
+use Rattle.replay.proofs.replayed.Tie as tie
 
 abbrev Inv-loop : tie.InvT-loop
-Inv-loop buf₀ count t₀ left₀ buf t left = length buf ≡ length buf₀
+Inv-loop buf₀ count t₀ number₀ buf t number = (number ≤ count) × (length buf ≡ length buf₀)
 
 abbrev μ-loop : tie.MeasureT-loop
-μ-loop buf₀ count t₀ left₀ buf t left = left
+μ-loop buf₀ count t₀ number₀ buf t number = count - number
 
 loop-holds : tie.Need-loop-holds Inv-loop μ-loop
 loop-holds c = search needs
-
-sub-left : tie.Need-sub-left Inv-loop μ-loop
-sub-left c = search needs
 
 next-requires : tie.Need-next-requires Inv-loop μ-loop
 next-requires c κs = search needs
@@ -26,6 +23,9 @@ same-length c = search needs
 
 returns : tie.Need-returns Inv-loop μ-loop
 returns c = search needs
+
+add-number : tie.Need-add-number Inv-loop μ-loop
+add-number c = search needs
 
 loop-less : tie.Need-loop-less Inv-loop μ-loop
 loop-less c = search needs
@@ -46,10 +46,10 @@ replayed-spec =
     Inv-loop
     μ-loop
     loop-holds
-    sub-left
     next-requires
     same-length
     returns
+    add-number
     loop-less
     loop-again
     same-length-2
