@@ -1,5 +1,6 @@
 // The stored file, in pieces: testdata/README.md.
 ghost use Rattle.io.specs.Counts.{Counts};
+use libc::STDIN_FILENO;
 
 // The number of four bytes at a place, low byte first.
 pub fn long_at(b: &[u8], at: u32) -> u32 {
@@ -13,5 +14,5 @@ pub fn take(buf: &mut [u8], n: usize) -> usize
     if buf.len() < n {
         return 0;
     }
-    io::read_full(0, &mut buf[..n])
+    io::read_full(STDIN_FILENO, &mut buf[..n])
 }

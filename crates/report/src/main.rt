@@ -1,4 +1,6 @@
 // The program `report` of document 01: reads a sheet from standard input and prints what the call answers, at most 512 records.
+use libc::STDIN_FILENO;
+use libc::STDOUT_FILENO;
 use rules::Answer;
 use rules::Diagnostic;
 use rules::NameSet;
@@ -8,7 +10,7 @@ use rules::Verdict;
 fn main() {
     // one byte more than a sheet can have, so that a longer input is told
     let mut bytes = [0u8; 32769];
-    let n = io::read_full(0, &mut bytes);
+    let n = io::read_full(STDIN_FILENO, &mut bytes);
     let mut scratch = [0u8; 4096];
     let mut codes = [0u64; 512];
     let s = &bytes[..n];
@@ -21,15 +23,15 @@ fn main() {
 }
 
 fn print_refusal(number: u8, position: usize) {
-    io::write_all(1, b"refused ");
-    io::print_decimal(1, number as u64);
-    io::write_all(1, b" at ");
-    io::print_decimal(1, position as u64);
+    io::write_all(STDOUT_FILENO, b"refused ");
+    io::print_decimal(STDOUT_FILENO, number as u64);
+    io::write_all(STDOUT_FILENO, b" at ");
+    io::print_decimal(STDOUT_FILENO, position as u64);
     end_line();
 }
 
 fn print_answer(answer: Answer, structs: u16, codes: &[u64; 512]) {
-    io::write_all(1, b"accepted");
+    io::write_all(STDOUT_FILENO, b"accepted");
     print_number(answer.total as u64);
     end_line();
     let order = answer.order;
@@ -43,13 +45,13 @@ fn print_answer(answer: Answer, structs: u16, codes: &[u64; 512]) {
 }
 
 fn end_line() {
-    io::write_all(1, b"\n");
+    io::write_all(STDOUT_FILENO, b"\n");
 }
 
 // A blank, and a number.
 fn print_number(n: u64) {
-    io::write_all(1, b" ");
-    io::print_decimal(1, n);
+    io::write_all(STDOUT_FILENO, b" ");
+    io::print_decimal(STDOUT_FILENO, n);
 }
 
 // How many struct items a sheet has.
@@ -74,7 +76,7 @@ fn byte_at(list: &[u8; 255], k: usize) -> u8 {
 }
 
 fn print_order(order: &[u8; 255], structs: u16) {
-    io::write_all(1, b"order");
+    io::write_all(STDOUT_FILENO, b"order");
     for k in 0..structs {
         print_number(byte_at(order, k as usize) as u64);
     }
@@ -83,7 +85,7 @@ fn print_order(order: &[u8; 255], structs: u16) {
 
 // In the sequence of the order.
 fn print_tiers(order: &[u8; 255], tiers: &[u8; 255], structs: u16) {
-    io::write_all(1, b"tiers");
+    io::write_all(STDOUT_FILENO, b"tiers");
     for k in 0..structs {
         let item = byte_at(order, k as usize);
         print_number(byte_at(tiers, item as usize) as u64);
@@ -92,7 +94,7 @@ fn print_tiers(order: &[u8; 255], tiers: &[u8; 255], structs: u16) {
 }
 
 fn print_improper(set: NameSet) {
-    io::write_all(1, b"improper");
+    io::write_all(STDOUT_FILENO, b"improper");
     for name in 0..256 {
         if names::contains(set, name) {
             print_number(name as u64);
@@ -111,7 +113,7 @@ fn print_records(codes: &[u64; 512], total: usize) {
 }
 
 fn print_record(d: Diagnostic) {
-    io::print_decimal(1, d.message as u64);
+    io::print_decimal(STDOUT_FILENO, d.message as u64);
     let place = d.place;
     print_place(place);
     print_number(d.detail as u64);
@@ -132,12 +134,12 @@ fn print_place(place: Place) {
 }
 
 fn print_one(letter: &[u8], n: u64) {
-    io::write_all(1, letter);
+    io::write_all(STDOUT_FILENO, letter);
     print_number(n);
 }
 
 fn print_two(letter: &[u8], n: u64, m: u64) {
-    io::write_all(1, letter);
+    io::write_all(STDOUT_FILENO, letter);
     print_number(n);
     print_number(m);
 }

@@ -1,4 +1,4 @@
--- `report::count_structs` ends: each turn leaves one item fewer.
+-- `report::count_structs` ends: each turn leaves one item fewer. Assumes nothing.
 use borrow.Author.Needs.{needs}
 use Prim.Native.Nat.{_-_, _≤_}
 use Rattle.report.proofs.count_structs.Statement.{statement}

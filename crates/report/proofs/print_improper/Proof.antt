@@ -1,4 +1,4 @@
--- `report::print_improper` ends: each turn leaves one name fewer.
+-- `report::print_improper` ends: each turn leaves one name fewer. Assumes nothing.
 use borrow.Author.Needs.{needs}
 use Prim.Native.Nat.{_-_, _≤_}
 use Rattle.report.proofs.print_improper.Statement.{statement}

@@ -1,4 +1,4 @@
--- `report::print_order` ends: each turn leaves one struct fewer.
+-- `report::print_order` ends: each turn leaves one struct fewer. Assumes nothing.
 use borrow.Author.Needs.{needs}
 use Prim.Native.Nat.{_-_, _≤_}
 use Rattle.report.proofs.print_order.Statement.{statement}

@@ -1,4 +1,4 @@
--- `report::print_records` ends: each turn leaves one code fewer.
+-- `report::print_records` ends: each turn leaves one code fewer. Assumes nothing.
 use borrow.Author.Needs.{needs}
 use Prim.Native.Nat.{_-_, _≤_}
 use Rattle.report.proofs.print_records.Statement.{statement}
