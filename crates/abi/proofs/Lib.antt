@@ -1,2 +1,3 @@
--- What the proofs of the functions use.
+-- What the proofs of the functions use, and what the contract comes to.
 mod Codes
+mod Records

@@ -7,7 +7,6 @@ use oracle::generate::{Draft, PROFILES, Profile};
 use oracle::judge;
 use oracle::sheet::MAX_BYTES;
 use std::hint::black_box;
-use std::mem::MaybeUninit;
 use std::time::{Duration, Instant};
 
 const RUNS: usize = 15;
@@ -55,40 +54,44 @@ fn rust(sheet: &[u8]) -> Option<Duration> {
     (0..RUNS).map(|_| judge::bench(sheet).map(|(time, _)| time)).collect::<Option<Vec<_>>>()?.into_iter().min()
 }
 
+/// So much below the caller is looked at, from a little below it on.
 const STACK: usize = 2 << 20;
+const NEAR: usize = 1024;
 const MARK: u8 = 0xC7;
 
+/// Marks the stack below.
 #[inline(never)]
 fn paint() {
-    let mut bytes = [MARK; STACK];
-    black_box(&mut bytes);
+    let here = 0u8;
+    let top = black_box(&raw const here).cast_mut();
+    for below in NEAR..STACK {
+        // SAFETY: the thread's stack is larger, and nothing below this frame is in use.
+        unsafe { top.sub(below).write_volatile(MARK) }
+    }
 }
 
-/// How much of what `paint` left has been written over, from the near end.
+/// How far down the marks are written over.
 #[inline(never)]
 fn painted_over() -> usize {
-    let bytes: MaybeUninit<[u8; STACK]> = MaybeUninit::uninit();
-    let start = black_box(bytes.as_ptr()).cast::<u8>();
-    // The far end of the stack is the low one.
-    let kept = (0..STACK).take_while(|&at| unsafe { start.add(at).read_volatile() } == MARK).count();
-    STACK - kept
+    let here = 0u8;
+    let top = black_box(&raw const here);
+    // SAFETY: as above.
+    (NEAR..STACK).rev().find(|&below| unsafe { top.sub(below).read_volatile() } != MARK).unwrap_or(NEAR)
 }
 
 /// Bytes of stack that one call takes.
 fn stack(sheet: &[u8], out: &mut [u8]) -> usize {
     let mut scratch = [0; 4096];
     paint();
-    let idle = painted_over();
-    paint();
     black_box(tirvouez::check(sheet, &mut scratch, 0, out));
-    painted_over().saturating_sub(idle)
+    painted_over()
 }
 
 /// Sheets that are made to be slow, each with what it is.
 fn worst() -> Vec<(&'static str, Vec<u8>)> {
     let full = |draft: &Draft| draft.len() <= MAX_BYTES;
     let mut sheets = Vec::new();
-    // 219 structs of as many fields as fit, each the next structs by value, or the ones before
+    // structs whose fields are the next structs by value, or the ones before: as many edges as fields
     for (about, ahead) in [("structs, fields are the next 63 structs", true), ("structs, fields are the 63 before", false)] {
         let mut draft = Draft::new();
         let rows: Vec<u16> = (24..=255).map(|name| draft.name(name)).collect();
@@ -114,14 +117,45 @@ fn worst() -> Vec<(&'static str, Vec<u8>)> {
         }
     }
     sheets.push(("64 names, every struct has a field of each", draft.bytes()));
-    // a chain of 232 structs, one field each
-    let mut draft = Draft::new();
-    let rows: Vec<u16> = (24..=255).map(|name| draft.name(name)).collect();
-    for i in 0..rows.len() {
-        draft.strct(24 + i as u16, &rows[i + 1..].iter().take(1).copied().collect::<Vec<_>>());
+    // 255 structs, each with fields of the next one; then fewer, with lifetimes and derives before them
+    for (about, head) in [("chain of 255 structs, 55 fields each", vec![0, 0]), ("chain of 255 structs, derives, lifetimes", vec![8, 1, 2, 3, 4, 5, 6, 7, 8, 16, 0, 1, 2, 3, 4, 5, 6, 7, 8, 9, 10, 11, 12, 13, 14, 0])] {
+        let mut draft = Draft::new();
+        let rows: Vec<u16> = (1..=255).map(|name| draft.name(name)).collect();
+        let fields = 57 - head.len();
+        for i in 0..255 {
+            draft.item(&[&[1, 1 + i as u16], &head, &[fields as u16], &vec![rows[(i + 1).min(254)]; fields]]);
+        }
+        sheets.push((about, draft.bytes()));
     }
-    sheets.push(("chain of 232 structs", draft.bytes()));
-    // rows over rows, 140 deep (10,000 nodes), all used by fields
+    // more tree nodes than the Rust is asked to judge: 1,024 rows, each over the one before, or over it 16 times
+    for (about, front, times) in [("1,024 rows, each a reference to the last", vec![7, 1], 1), ("1,024 rows, arrays", vec![11, 2], 1), ("rows of functions, each over the last", vec![12, 0, 65_535, 12], 12)] {
+        let mut draft = Draft::new();
+        let mut last = draft.name(24);
+        while draft.rows.len() < 1024 && draft.len() < MAX_BYTES - 400 {
+            last = draft.row(&[&front[..], &vec![last; times]].concat());
+        }
+        draft.strct(24, &[last; 64]);
+        draft.strct(25, &[last; 64]);
+        while draft.items.len() < 255 && draft.len() < MAX_BYTES - 150 {
+            draft.strct(26 + draft.items.len() as u16 % 200, &vec![last; 64]);
+        }
+        sheets.push((about, draft.bytes()));
+    }
+    // each struct is improper only because the next one, or the one before, is: as many passes as structs
+    for (about, ahead) in [("improper by the next struct, 63 fields", true), ("improper by the struct before, 63 fields", false)] {
+        let mut draft = Draft::new();
+        let rows: Vec<u16> = (24..=248).map(|name| draft.name(name)).collect();
+        let (plain, text) = (draft.name(2), draft.name(15));
+        let last = rows.len() - 1;
+        for i in 0..=last {
+            let next = if ahead { rows.get(i + 1) } else { rows[..i].last() };
+            let mut fields = vec![plain; 62];
+            fields.push(*next.unwrap_or(&text));
+            draft.strct(24 + i as u16, &fields);
+        }
+        sheets.push((about, draft.bytes()));
+    }
+    // rows over rows, 135 deep, so that all unfold to less than 10,000 nodes; the deepest 64 are the fields
     for (about, front) in [("structs over references, 135 deep", vec![7, 1]), ("structs over arrays, 135 deep", vec![11, 3]), ("structs over boxes, 135 deep", vec![1])] {
         let mut draft = Draft::new();
         let mut last = draft.name(24);
@@ -159,7 +193,7 @@ fn worst() -> Vec<(&'static str, Vec<u8>)> {
     let names: Vec<u16> = (0..60).map(|name| draft.name(name)).collect();
     let mut functions = Vec::new();
     for i in 0..570usize {
-        let args: Vec<u16> = (0..16).map(|j| names[(i * (j + 1) + j) % 60]).collect();
+        let args: Vec<u16> = (0..16).map(|j| names[(i * (j + 1) + j + i / 60 * j * j) % 60]).collect();
         functions.push(draft.row(&[&[12, 0, names[i % 60], 16][..], &args].concat()));
     }
     for i in 0..255 {
