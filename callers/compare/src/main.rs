@@ -124,7 +124,13 @@ fn count(profile: &Profile, count: u64) -> u64 {
 fn report(name: &str, t: &Tally) {
     println!(
         "{name:12} {:8} sheets  {:8} accepted {:8} refused {:6} not judged {:10} records {:6} paged {:8} calls",
-        t.sheets(), t.accepted, t.refused, t.too_large, t.records, t.paged, t.calls
+        t.sheets(),
+        t.accepted,
+        t.refused,
+        t.too_large,
+        t.records,
+        t.paged,
+        t.calls
     );
 }
 

@@ -34,17 +34,7 @@ mod abi {
 pub fn check(sheet: &[u8], scratch: &mut [u8], from: usize, out: &mut [u8]) -> usize {
     // SAFETY: the function is proved for all slices; it takes each as its pointer and length, and keeps none. Rust's borrows see to it
     // that they are valid and that the two that are written overlap nothing.
-    unsafe {
-        abi::tirvouez_check(
-            sheet.as_ptr(),
-            sheet.len(),
-            scratch.as_mut_ptr(),
-            scratch.len(),
-            from,
-            out.as_mut_ptr(),
-            out.len(),
-        )
-    }
+    unsafe { abi::tirvouez_check(sheet.as_ptr(), sheet.len(), scratch.as_mut_ptr(), scratch.len(), from, out.as_mut_ptr(), out.len()) }
 }
 
 /// What one call wrote.

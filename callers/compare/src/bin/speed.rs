@@ -118,7 +118,13 @@ fn worst() -> Vec<(&'static str, Vec<u8>)> {
     }
     sheets.push(("64 names, every struct has a field of each", draft.bytes()));
     // 255 structs, each with fields of the next one; then fewer, with lifetimes and derives before them
-    for (about, head) in [("chain of 255 structs, 55 fields each", vec![0, 0]), ("chain of 255 structs, derives, lifetimes", vec![8, 1, 2, 3, 4, 5, 6, 7, 8, 16, 0, 1, 2, 3, 4, 5, 6, 7, 8, 9, 10, 11, 12, 13, 14, 0])] {
+    for (about, head) in [
+        ("chain of 255 structs, 55 fields each", vec![0, 0]),
+        (
+            "chain of 255 structs, derives, lifetimes",
+            vec![8, 1, 2, 3, 4, 5, 6, 7, 8, 16, 0, 1, 2, 3, 4, 5, 6, 7, 8, 9, 10, 11, 12, 13, 14, 0],
+        ),
+    ] {
         let mut draft = Draft::new();
         let rows: Vec<u16> = (1..=255).map(|name| draft.name(name)).collect();
         let fields = 57 - head.len();
@@ -128,7 +134,11 @@ fn worst() -> Vec<(&'static str, Vec<u8>)> {
         sheets.push((about, draft.bytes()));
     }
     // more tree nodes than the Rust is asked to judge: 1,024 rows, each over the one before, or over it 16 times
-    for (about, front, times) in [("1,024 rows, each a reference to the last", vec![7, 1], 1), ("1,024 rows, arrays", vec![11, 2], 1), ("rows of functions, each over the last", vec![12, 0, 65_535, 12], 12)] {
+    for (about, front, times) in [
+        ("1,024 rows, each a reference to the last", vec![7, 1], 1),
+        ("1,024 rows, arrays", vec![11, 2], 1),
+        ("rows of functions, each over the last", vec![12, 0, 65_535, 12], 12),
+    ] {
         let mut draft = Draft::new();
         let mut last = draft.name(24);
         while draft.rows.len() < 1024 && draft.len() < MAX_BYTES - 400 {
@@ -156,7 +166,11 @@ fn worst() -> Vec<(&'static str, Vec<u8>)> {
         sheets.push((about, draft.bytes()));
     }
     // rows over rows, 135 deep, so that all unfold to less than 10,000 nodes; the deepest 64 are the fields
-    for (about, front) in [("structs over references, 135 deep", vec![7, 1]), ("structs over arrays, 135 deep", vec![11, 3]), ("structs over boxes, 135 deep", vec![1])] {
+    for (about, front) in [
+        ("structs over references, 135 deep", vec![7, 1]),
+        ("structs over arrays, 135 deep", vec![11, 3]),
+        ("structs over boxes, 135 deep", vec![1]),
+    ] {
         let mut draft = Draft::new();
         let mut last = draft.name(24);
         let mut rows = vec![last];
@@ -177,12 +191,14 @@ fn worst() -> Vec<(&'static str, Vec<u8>)> {
         sheets.push((about, draft.bytes()));
     }
     // 255 functions of 16 arguments
-    for (about, flags, form) in [("255 functions of 16 arguments", 0, vec![0]), ("255 methods, lifetimes, &mut return", 2, vec![2, 30, 0])] {
+    for (about, flags, form) in [("255 functions of 16 arguments", 0, vec![0]), ("255 methods, lifetimes, &mut return", 2, vec![2, 30, 0])]
+    {
         let mut draft = Draft::new();
         let rows: Vec<u16> = (20..60).map(|name| draft.name(name)).collect();
         let more: Vec<u16> = rows.iter().map(|&row| draft.row(&[7, 1, row])).collect();
         for i in 0..255u16 {
-            let args: Vec<u16> = (0..16).map(|j| if j % 2 == 0 { more[usize::from(i + j) % 40] } else { rows[usize::from(i + j) % 40] }).collect();
+            let args: Vec<u16> =
+                (0..16).map(|j| if j % 2 == 0 { more[usize::from(i + j) % 40] } else { rows[usize::from(i + j) % 40] }).collect();
             let kind = if i % 2 == 0 { 5 } else { 6 };
             draft.item(&[&[kind, i, flags, 0], &form, &[more[usize::from(i) % 40], 16], &args]);
         }
@@ -223,7 +239,11 @@ fn worst() -> Vec<(&'static str, Vec<u8>)> {
     let mut draft = Draft::new();
     let repr = draft.name(3);
     for i in 0..255u16 {
-        draft.item(&[&[2, 24 + i % 8, 8, 1, 2, 3, 4, 5, 6, 7, 8, 16], &(0..16).map(|d| d % 15).collect::<Vec<u16>>(), &[repr, 1, 255, 255]]);
+        draft.item(&[
+            &[2, 24 + i % 8, 8, 1, 2, 3, 4, 5, 6, 7, 8, 16],
+            &(0..16).map(|d| d % 15).collect::<Vec<u16>>(),
+            &[repr, 1, 255, 255],
+        ]);
     }
     sheets.push(("255 enums, 16 derives and 8 lifetimes each", draft.bytes()));
     sheets
@@ -250,7 +270,11 @@ fn measure(sheet: &[u8]) -> Option<Line> {
 }
 
 fn profile(profile: &Profile, sheets: u64) {
-    let lines: Vec<Line> = (0..sheets).map(|number| profile.sheet(7, number)).filter(|sheet| sheet.len() == MAX_BYTES).filter_map(|sheet| measure(&sheet)).collect();
+    let lines: Vec<Line> = (0..sheets)
+        .map(|number| profile.sheet(7, number))
+        .filter(|sheet| sheet.len() == MAX_BYTES)
+        .filter_map(|sheet| measure(&sheet))
+        .collect();
     let count = lines.len();
     if count == 0 {
         return;
@@ -263,10 +287,14 @@ fn profile(profile: &Profile, sheets: u64) {
         "{:12} {count:4} sheets {:7} records | Rust mean {:8.1} max {:8.1} | port 512: {:7.1} {:7.1} | 4096: {:7.1} {:7.1} | all: {:7.1} {:7.1} | worst port/Rust {ratio:.3} | stack {}",
         profile.name,
         lines.iter().map(|line| line.records).sum::<usize>() / count,
-        sum(&rust), most(&rust),
-        sum(&|l| l.lists[0]), most(&|l| l.lists[0]),
-        sum(&|l| l.lists[1]), most(&|l| l.lists[1]),
-        sum(&|l| l.all), most(&|l| l.all),
+        sum(&rust),
+        most(&rust),
+        sum(&|l| l.lists[0]),
+        most(&|l| l.lists[0]),
+        sum(&|l| l.lists[1]),
+        most(&|l| l.lists[1]),
+        sum(&|l| l.all),
+        most(&|l| l.all),
         lines.iter().map(|line| line.stack).max().unwrap(),
     );
 }
@@ -285,10 +313,17 @@ fn run(sheets: u64) {
             println!("{about}: refused");
             continue;
         };
-        let expected = Expected::of(&sheet).map_or("not judged", |expected| if expected.records.len() == line.records { "same total" } else { "DIFFERS" });
+        let expected = Expected::of(&sheet)
+            .map_or("not judged", |expected| if expected.records.len() == line.records { "same total" } else { "DIFFERS" });
         println!(
             "{about:44} {:6} bytes {:6} records | Rust {:8.1} | port 512: {:7.1} | 4096: {:7.1} | all: {:7.1} | stack {} | {expected}",
-            sheet.len(), line.records, line.rust.map_or(0.0, us), us(line.lists[0]), us(line.lists[1]), us(line.all), line.stack
+            sheet.len(),
+            line.records,
+            line.rust.map_or(0.0, us),
+            us(line.lists[0]),
+            us(line.lists[1]),
+            us(line.all),
+            line.stack
         );
     }
 }
