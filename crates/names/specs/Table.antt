@@ -5,13 +5,17 @@ use mathlib.Core.Path.{_≡_}
 use mathlib.Core.List.{List, [], _∷_}
 use lib.ListN.{length, getD}
 use lib.Count.{onesIn}
-use lib.Dec.{eqb}
+use lib.Dec.{ltb, eqb}
 use Rattle.rules.specs.Base.{if_then_else_}
 use Rattle.rules.specs.Names.{Words, add}
 
+-- word i of the table; past its 28 words every word is 0
+unfoldable pub wordAt : List ℕ → ℕ → ℕ
+wordAt w i = if ltb i 28 then getD w i 0 else 0
+
 -- set k of the table
 unfoldable pub wordsAt : List ℕ → ℕ → Words
-wordsAt w k = getD w (4 * k) 0 ∷ getD w (4 * k + 1) 0 ∷ getD w (4 * k + 2) 0 ∷ getD w (4 * k + 3) 0 ∷ []
+wordsAt w k = wordAt w (4 * k) ∷ wordAt w (4 * k + 1) ∷ wordAt w (4 * k + 2) ∷ wordAt w (4 * k + 3) ∷ []
 
 -- `after` is `before` with name n added to set k, and all other sets as they were
 pub record Entered (before : List ℕ) (k n : ℕ) (after : List ℕ) : Type 0 where

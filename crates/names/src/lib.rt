@@ -66,11 +66,13 @@ pub fn size(set: NameSet) -> u16
     ones(w[0]) + ones(w[1]) + ones(w[2]) + ones(w[3])
 }
 
-// Whether name n is in set k of the table.
+// Whether name n is in set k of the table. From the eighth on all sets are empty.
 pub fn has(sets: &[u64; 28], k: usize, n: u16) -> bool
-    requires { ⌜ k < 7 ⌝ }
     ensures { λ x. ⌜ x ≡ (wordsAt (now (sets .entry)) k ∋ n) ⌝ }
 {
+    if 6 < k {
+        return false;
+    }
     let q = (n as usize) / 64;
     if q < 4 {
         return has_bit(sets[4 * k + q], n);
@@ -92,9 +94,11 @@ pub fn enter(sets: &mut [u64; 28], k: usize, n: u16)
 
 // Set k of the table, by value.
 pub fn set_at(sets: &[u64; 28], k: usize) -> NameSet
-    requires { ⌜ k < 7 ⌝ }
     ensures { λ r. ⌜ r .words ≡ wordsAt (now (sets .entry)) k ⌝ }
 {
+    if 6 < k {
+        return empty();
+    }
     let at = 4 * k;
     NameSet {
         words: [sets[at], sets[at + 1], sets[at + 2], sets[at + 3]],

@@ -1,16 +1,16 @@
--- `errors::error_if` meets its contract: nothing, or one code kept and counted. Assumes nothing.
-use Rattle.errors.specs.Sink.{countFrom, putFrom, none}
+-- `errors::error_if` meets its contract: nothing, or one record kept and counted.
+-- Assumes nothing.
 use borrow.Author.Tests.{not-true, not-false}
 use mathlib.Core.Bool.{true, false}
 use mathlib.Core.Path.{_≡_, refl}
-use Rattle.rules.specs.Diagnostics.{when}
+use Rattle.rules.specs.Base.{if_then_else_}
 use borrow.Author.Needs.{needs}
 use Rattle.errors.proofs.error_if.Statement.{statement}
 use Rattle.errors.proofs.error_if.Tie as tie
 
 returns : tie.Need-returns
-unfolding when
-returns c = λ d q. let e : c .before .before .args .yes ≡ false = not-true _ (c .if1 .taken) in rw e (none _ _)
+unfolding if_then_else_
+returns c = let e : c .before .before .args .yes ≡ false = not-true _ (c .if1 .taken) in rw e (record { total = refl; from = refl; list = refl })
 
 keep-requires : tie.Need-keep-requires
 keep-requires c κs = search needs
@@ -22,8 +22,10 @@ same-length : tie.Need-same-length
 same-length c = search needs
 
 returns-2 : tie.Need-returns-2
-unfolding when countFrom putFrom
-returns-2 c = λ d q. let e : c .before .before .before .before .before .before .before .args .yes ≡ true = not-false _ (c .before .before .before .before .before .if1 .left) in rw e (record { total = c .next .ensures; from = refl; list = rw q at (c .before .before .before .keep .ensures) })
+unfolding if_then_else_
+returns-2 c =
+    let e : c .before .before .before .before .before .before .before .args .yes ≡ true = not-false _ (c .before .before .before .before .before .if1 .left) in
+    rw e (record { total = c .next .ensures; from = refl; list = c .before .before .before .keep .ensures })
 
 pub error-if-spec : {M : Type 1} → statement M
 error-if-spec = tie.close (tie.spec returns keep-requires next-requires same-length returns-2)
