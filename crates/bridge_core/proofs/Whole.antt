@@ -53,7 +53,7 @@ module _ {s b b′ out out₁ : List ℕ} {cx₀ : Errors} {k : Collected} (c : 
   -- past the bytes that are cleared nothing changed
   clear-again : cleared b′ ≡ cleared b
   unfolding cleared
-  clear-again = cleared-over 4096 b b′ (sym (drop-drop 1792 2304 b′) ∙ ap (drop 1792) (c .rest) ∙ drop-drop 1792 2304 (replicate 4096 0 ++ drop 4096 b))
+  clear-again = cleared-over 4096 b b′ (sym (drop-drop 1920 2176 b′) ∙ ap (drop 1920) (c .rest) ∙ drop-drop 1920 2176 (replicate 4096 0 ++ drop 4096 b))
 
   module _ {out₂ out₃ : List ℕ} {w : Sorted} {cx : Errors} (o : Sorts s out₁ (k .errors) w out₂) (told : Reported out₂ (w .errors) (checks s (typesOf s)) cx out₃) where
     all-told : Reported out cx₀ (report s) cx out₃

@@ -22,7 +22,7 @@ use Rattle.laws.proofs.Counts.{free-le, Eq?, same, other, eq?}
 use Rattle.laws.proofs.Lists.{zeros-get}
 use Rattle.laws.proofs.Collect.{all-few}
 use Rattle.laws.proofs.Bounds.Reasons.{names-few}
-use Rattle.names.specs.Table.{wordsAt}
+use Rattle.names.specs.Table.{wordAt, wordsAt}
 use Rattle.errors.specs.declared.Errors.{Errors}
 use Rattle.types.specs.Scratch.{rowsOf, marked, Holds, Grown, Held}
 use Rattle.types.specs.Named.{Named, ReadyTables, Declared}
@@ -50,7 +50,7 @@ held-none {s} {b} h e = rw e (record { accepted = h .accepted; long = (let l = h
 
 -- the tables of no items
 pub tables-none : {s : List ℕ} → Accepted s → ReadyTables s (replicate 28 0) (replicate 256 255) (replicate 256 255) (replicate 256 255)
-unfolding wordsAt namesTo lastTo
+unfolding wordsAt wordAt if_then_else_ namesTo lastTo
 tables-none acc =
     record {
       accepted = acc;
@@ -108,10 +108,10 @@ module _ {s b d : List ℕ} {m : ℕ} (acc : Accepted s) (grown : Grown b d m (t
 
 -- ## The scratch at the end
 
-pub rest-kept : {b d : List ℕ} {m : ℕ} {all : List ℕ} → Grown b d m all → length d ≡ length b → drop 2304 d ≡ drop 2304 b
+pub rest-kept : {b d : List ℕ} {m : ℕ} {all : List ℕ} → Grown b d m all → length d ≡ length b → drop 2176 d ≡ drop 2176 b
 rest-kept {b} {d} g e =
-    ext-getD 0 (drop 2304 d) (drop 2304 b) (length-drop 2304 d ∙ ap (λ n. n - 2304) e ∙ sym (length-drop 2304 b))
-    (λ i l. getD-drop 2304 d i 0 ∙ g .kept (2304 + i) (omega arith) ∙ sym (getD-drop 2304 b i 0))
+    ext-getD 0 (drop 2176 d) (drop 2176 b) (length-drop 2176 d ∙ ap (λ n. n - 2176) e ∙ sym (length-drop 2176 b))
+    (λ i l. getD-drop 2176 d i 0 ∙ g .kept (2176 + i) (omega arith) ∙ sym (getD-drop 2176 b i 0))
 
 -- ## All together
 
@@ -146,7 +146,8 @@ whole {s} {b} {m = m} h c g l n r q =
         rows = few;
       };
       rows = λ k p. holds-row (g .held) k (omega arith);
+      marks = g .held .marks;
       same = l ∙ ap length c ∙ cleared-length b (h .long);
-      rest = rest-kept g l ∙ ap (drop 2304) c;
+      rest = rest-kept g l ∙ ap (drop 2176) c;
       errors = n .reported;
     }

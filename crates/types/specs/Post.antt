@@ -8,11 +8,13 @@ use Rattle.rules.specs.Format.{pairAt, Accepted}
 use Rattle.rules.specs.Collect.{duplicates}
 use Rattle.rules.specs.Types.{typesOf}
 use Rattle.rules.specs.Answer.{cleared}
+use Rattle.laws.specs.Skip.{seen}
 use Rattle.names.specs.Table.{wordsAt}
 use Rattle.errors.specs.declared.Errors.{Errors}
 use Rattle.errors.specs.Sink.{Reported}
 use Rattle.types.specs.declared.Types.{Types as Code}
 use Rattle.types.specs.declared.Collected.{Collected}
+use Rattle.types.specs.Scratch.{marked}
 
 pub record IsTypes (s : List ℕ) (t : Code) : Type 0 where
   pub long : length (t .sets) ≡ 28
@@ -36,9 +38,10 @@ pub record Collectable (s scratch : List ℕ) : Type 0 where
 
 pub record Collects (s scratch scratch′ out out′ : List ℕ) (cx : Errors) (r : Collected) : Type 0 where
   pub types : IsTypes s (r .types)
-  -- pair k of the scratch is row k of the collected ones
+  -- pair k of the scratch is row k of the collected ones, and the row is marked where it is one of them; the pairs of no row are left open
   pub rows : (k : ℕ) → k < length (typesOf s .all) → pairAt scratch′ (2 * k) ≡ getD (typesOf s .all) k 0
+  pub marks : (r : ℕ) → r < 1024 → marked scratch′ r ≡ seen (typesOf s .all) r
   pub same : length scratch′ ≡ length scratch
   -- what lies behind the rows and their marks was cleared, or left as it was past the 4,096 bytes
-  pub rest : drop 2304 scratch′ ≡ drop 2304 (cleared scratch)
+  pub rest : drop 2176 scratch′ ≡ drop 2176 (cleared scratch)
   pub errors : Reported out cx (duplicates s) (r .errors) out′
