@@ -10,7 +10,7 @@ use crate::{tiers, tree};
 use proc_macro2::{Ident, Span};
 use std::time::{Duration, Instant};
 
-/// Rows may unfold to this many tree nodes in all (document 01).
+/// Rows may unfold to this many tree nodes in all (docs/DECISIONS.md, A16).
 pub const MOST_NODES: u64 = 10_000;
 /// What the items use may unfold to this many, so that it fits in memory.
 pub const MOST_USED_NODES: u64 = 5_000_000;
