@@ -11,7 +11,8 @@ const RUST: usize = 1 << 3;
 const KNOWN: usize = 1 | 1 << 1 | 1 << 4;
 
 /// The opaque type that the book forbids in each of the first TARGETS, Box to
-/// Array. The book lacks weak_ptr; document 02 reads it like shared_ptr.
+/// Array. The book lacks weak_ptr; it is read like shared_ptr
+/// (docs/DECISIONS.md, E18).
 const FORBIDDEN: [usize; 9] = [CXX, CXX, RUST, RUST, RUST, RUST, CXX, CXX, CXX];
 
 /// One way to declare a name and one kind of row over it.

@@ -10,7 +10,7 @@ use crate::{tiers, tree};
 use proc_macro2::{Ident, Span};
 use std::time::{Duration, Instant};
 
-/// Rows may unfold to this many tree nodes in all (document 01).
+/// Rows may unfold to this many tree nodes in all (docs/DECISIONS.md, A16).
 pub const MOST_NODES: u64 = 10_000;
 /// What the items use may unfold to this many, so that it fits in memory.
 pub const MOST_USED_NODES: u64 = 5_000_000;
@@ -100,17 +100,32 @@ pub fn bench(bytes: &[u8]) -> Option<(Duration, usize)> {
     Some((time, errors.errors.len()))
 }
 
-/// Each record with the source line of its error call.
-#[cfg(feature = "lines")]
-pub fn with_lines(bytes: &[u8]) -> Vec<(Record, crate::lines::Line)> {
-    let Some(sheet) = reader::read(bytes).ok().filter(|sheet| !too_large(sheet)) else {
-        return Vec::new();
-    };
+/// The records of a sheet with the error list that they were read off. None
+/// for sheets that are not judged.
+fn recorded(bytes: &[u8]) -> Option<(Vec<Record>, Errors)> {
+    let sheet = reader::read(bytes).ok().filter(|sheet| !too_large(sheet))?;
     let apis = tree::build(&sheet);
     let mut errors = Errors::new();
     let reasons = reasons(&run(&mut errors, &apis));
     let records = errors.errors.iter().map(|error| record(&sheet, &reasons, error));
-    records.zip(errors.lines).collect()
+    Some((records.collect(), errors))
+}
+
+/// Each record with the text of its error call.
+pub fn with_texts(bytes: &[u8]) -> Vec<(Record, String)> {
+    let Some((records, errors)) = recorded(bytes) else {
+        return Vec::new();
+    };
+    records.into_iter().zip(errors.errors.into_iter().map(|error| error.text)).collect()
+}
+
+/// Each record with the source line of its error call.
+#[cfg(feature = "lines")]
+pub fn with_lines(bytes: &[u8]) -> Vec<(Record, crate::lines::Line)> {
+    let Some((records, errors)) = recorded(bytes) else {
+        return Vec::new();
+    };
+    records.into_iter().zip(errors.lines).collect()
 }
 
 fn names() -> impl Iterator<Item = (usize, Ident)> {

@@ -1,4 +1,5 @@
-//! The sheets that document 01 gives: worked example, proved set, refusals.
+//! The worked sheet and the eleven sheets of docs/RULES.md, and the refusals'
+//! examples of docs/SHEET.md.
 
 use crate::generate::Draft;
 use crate::sheet::NONE;

@@ -1,4 +1,4 @@
-//! Reads a sheet or refuses it, straight from document 01.
+//! Reads a sheet or refuses it: docs/SHEET.md.
 
 use crate::sheet::*;
 

@@ -1,4 +1,4 @@
-//! What stands in an accepted sheet, in document 01's words.
+//! What stands in an accepted sheet, in the words of docs/SHEET.md.
 
 pub const MAX_BYTES: usize = 32_768;
 pub const MAX_ROWS: usize = 1_024;

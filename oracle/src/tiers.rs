@@ -1,5 +1,5 @@
-//! Tiers, which document 01 adds: not in the Rust, so worked out here from
-//! the graph of struct items alone.
+//! Tiers (docs/RULES.md, "Order and tiers"): not in the Rust, so worked out
+//! here from the graph of struct items alone.
 
 use crate::sheet::{Item, Row, Sheet};
 

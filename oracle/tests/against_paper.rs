@@ -1,5 +1,6 @@
-//! The Rust against document 01's rules written a second time: all parts of
-//! the answer, on the generator's sheets, and the properties of rule 3.
+//! The Rust against the rules (docs/RULES.md, docs/MESSAGES.md) written a
+//! second time: all parts of the answer, on the generator's sheets, and the
+//! properties of rule 3.
 //!
 //! PAPER_SHEETS sets how many sheets of each small profile are compared,
 //! PAPER_SEED the seed.

@@ -1,4 +1,4 @@
-//! The sheets of document 01 give what document 01 says.
+//! The sheets of docs/RULES.md and docs/SHEET.md give what is said there.
 
 use oracle::judge::judge;
 use oracle::{print, proved};

@@ -1,4 +1,4 @@
-//! Stand-in for derive.rs: derives 0 to 14 in document 01's order.
+//! Stand-in for derive.rs: derives 0 to 14, as docs/SHEET.md has them.
 
 use proc_macro2::Span;
 use std::fmt::{self, Display};

@@ -1,4 +1,4 @@
-//! Stand-in for ident.rs, which document 01 leaves out.
+//! Stand-in for ident.rs, which is left out (docs/DIFFERENCES.md).
 
 use crate::syntax::Api;
 use crate::syntax::check::Check;

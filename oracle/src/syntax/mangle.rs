@@ -1,5 +1,5 @@
 //! Stand-in for mangle.rs: a symbol for a resolved name, or vectors of it.
-//! It reaches only `impls` and `local`, which document 01 leaves out.
+//! It reaches only `impls` and `local`, which are left out.
 
 use crate::syntax::Type;
 use crate::syntax::map::UnorderedMap;

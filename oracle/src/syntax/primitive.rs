@@ -1,5 +1,5 @@
-//! Stand-in for primitive.rs, which pod.rs rests on. Document 01 leaves
-//! pod.rs out; neither collect nor the check calls it.
+//! Stand-in for primitive.rs, which pod.rs rests on. pod.rs is left out; neither
+//! collect nor the check calls it.
 
 use crate::syntax::Type;
 

@@ -1,5 +1,5 @@
-//! Document 01's rules written a second time, over row and item numbers
-//! instead of a tree, to be held against the Rust.
+//! The rules of docs/RULES.md and docs/MESSAGES.md written a second time, over
+//! row and item numbers instead of a tree, to be held against the Rust.
 
 mod collect;
 mod graph;
