@@ -1,10 +1,13 @@
--- lists, tests and sums
+-- lists, tests, sums and digits
 pub mod Counts
 pub mod Tests
 pub mod Sums
 pub mod Members
 pub mod Lists
 pub mod Forms
+pub mod Flat
+pub mod Digits
+pub mod Right
 -- graphs, the walk over them, and tiers
 pub mod Chains
 pub mod ChainLaws

@@ -10,8 +10,9 @@ use Rattle.rules.specs.declared.Answer.{Answer}
 use Rattle.bridge.specs.Call.{Called}
 use Rattle.paged.specs.declared.Page.{Page}
 
+-- how many records a page has room for
 abbrev pub capacity : ℕ
-capacity = 512
+capacity = 4096
 
 abbrev pub blank : Diagnostic
 blank = record { message = 0; place = I 0; detail = 0 }

@@ -5,13 +5,13 @@ use rules::Answer;
 use rules::Diagnostic;
 use rules::Place;
 
-// An answer, and as many records as the program `report` prints.
+// An answer, and its first records.
 pub struct Page {
     pub answer: Answer,
-    pub list: [Diagnostic; 512],
+    pub list: [Diagnostic; 4096],
 }
 
-fn pack(answer: Answer, list: [Diagnostic; 512]) -> Page
+fn pack(answer: Answer, list: [Diagnostic; 4096]) -> Page
     ensures { λ r. ⌜ Packed answer list r ⌝ }
 {
     Page { answer, list }
@@ -21,7 +21,7 @@ fn pack(answer: Answer, list: [Diagnostic; 512]) -> Page
 fn call_on(sheet: &[u8], scratch: &mut [u8], d: Diagnostic) -> Page
     ensures { λ r. ⌜ Paged (now (sheet .entry)) (now (scratch .entry)) d r (now (scratch .exit)) ⌝ }
 {
-    let mut list = [d; 512];
+    let mut list = [d; 4096];
     let answer = bridge::call(sheet, scratch, &mut list);
     pack(answer, list)
 }

@@ -21,7 +21,7 @@ use contract.Monad.{Fun, fact}
 use contract.Running.{givenOf, tables, tablesOf}
 use types.Kit.{Given, ‵, raw, some, later, _⊛_, ⋆, _$_, _∵_, !, qed, by, move, keep, drop, use1, use2, use3, split, join, group, pick, fsplit, fjoin, feqL}
 use types.Kit.{suffices, frame, await, done}
-use types.Run.{look, init, forget, stop, hop, fld, from, addr, lit, of-opd, and-then, no-more, returns, enter, alloc1, alloc0, params1, pass1, pass0, free1}
+use types.Run.{look, init, forget, stop, hop, fld, from, addr, of-opd, and-then, no-more, returns, enter, alloc1, alloc0, params1, pass1, pass0, free1}
 use types.Run.{free0}
 use types.Part.{agg, rep, whole, sub, look-in}
 use types.Tokens.{lft-new, lft-end}
@@ -51,7 +51,7 @@ use Rattle.bridge.specs.Call.{Called}
 use Rattle.paged.specs.declared.Page.{Page}
 use Rattle.paged.specs.Paged.{capacity, Packed, Paged}
 use Rattle.bridge.proofs.Locals.{local, part, lets, gets, gone}
-use Rattle.bridge.proofs.Buffer.{Full, fills, lends, back, takes-whole}
+use Rattle.bridge.proofs.Buffer.{big-lit, Full, fills, lends, back, takes-whole}
 use Rattle.rules.proofs.Diagnostic as T
 use Rattle.rules.proofs.Diagnostic.Laws as T′
 use Rattle.rules.proofs.Answer as S
@@ -213,7 +213,8 @@ module _ {M : Type 1} (𝓤 : URA M) (H : Heap 𝓤) (A : Atoms 𝓤) (W : Given
         lets ! 7 refl (agg ! (and-then ! (local ! 9 refl) (and-then ! (part ! 16 refl (sub ! 1 refl (whole !))) (no-more !))))
         (tt, (tt, (record { fits = room₁ .0 }, tt))) $
         lets ! 5 refl (addr ! (from ! (stop !))) (tt, tt) $
-        lets ! 3 refl (agg ! (and-then ! (local ! 5 refl) (and-then ! (lit ! tt) (no-more !)))) (tt, (tt, (record { fits = lit< tt }, tt))) $
+        lets ! 3 refl (agg ! (and-then ! (local ! 5 refl) (and-then ! (big-lit ! (record { fits = lit< tt })) (no-more !))))
+        (tt, (tt, (record { fits = lit< tt }, tt))) $
         -- `call`: the array is lent for a lifetime ν
         lft-new ! tt (λ ν. move ! (1 ∷ []) $ use1 W (later (some (λ (δ : GName).
         ‵ (MutSlice (named 2) (ν ∷ []) R .own (out l₄ δ blanks) (sliceVal (l₄, 0) K ∷ [])) ⊛ ‵ (flent (ν ∷ []) (Held R K l₄ 0 δ)))))

@@ -1,0 +1,42 @@
+-- `printed::text` writes the sheet's text: the lines of what the call answers.
+-- Assumes nothing.
+use borrow.Author.Needs.{needs}
+use mathlib.Core.Path.{_≡_}
+use native.Mathlib.Omega.{arith}
+use lib.ListN.{length, replicate, length-replicate}
+use Rattle.rules.specs.declared.Diagnostic.{Diagnostic}
+use Rattle.paged.specs.Paged.{capacity, blank}
+use Rattle.lines.proofs.Whole.{wrote-meant}
+use Rattle.printed.proofs.Shown.{text-is}
+use Rattle.printed.proofs.text.Statement.{statement}
+use Rattle.printed.proofs.text.Tie as tie
+
+slice-aggregate-call : tie.Need-slice-aggregate-call
+slice-aggregate-call c = search needs
+
+call-requires : tie.Need-call-requires
+call-requires c κs = search needs
+
+structs-requires : tie.Need-structs-requires
+structs-requires c κs = search needs
+
+write-requires : tie.Need-write-requires
+write-requires c κs = search needs
+
+same-length : tie.Need-same-length
+same-length c = search needs
+
+returns : tie.Need-returns
+returns c =
+    let written = c .before .before in
+    let counted = written .before in
+    let called = counted .before .before .before .before .before in
+    let sheet = called .before .before .before .before .args .sheet .now in
+    let page = called .call .ensures .called in
+    let long : length (replicate {A = Diagnostic} capacity blank) ≡ 4096 = length-replicate {A = Diagnostic} 4096 blank in
+    wrote-meant
+    (written .write .ensures)
+    (text-is sheet (replicate capacity blank) _ _ _ (omega arith) (page .answer) (page .list) (counted .structs .ensures))
+
+pub text-spec : {M : Type 1} → statement M
+text-spec = tie.close (tie.spec slice-aggregate-call call-requires structs-requires write-requires same-length returns)
