@@ -1,40 +1,54 @@
--- The tables hold what is collected, so that what was shown of them is what is meant.
+-- What `do_typecheck` is given, as its two loops and its two tables over the rows need it.
 -- Assumes nothing.
 use Prim.Native.Nat.{ℕ, _≤_, _<_}
-use mathlib.Core.Path.{_≡_, ap, _∙_}
+use mathlib.Core.Path.{_≡_, sym, ap, _∙_}
 use mathlib.Core.List.{List}
 use lib.ListN.{length, getD}
-use Rattle.rules.specs.Format.{Accepted}
-use Rattle.rules.specs.View.{rows, items}
+use Rattle.rules.specs.View.{rows}
 use Rattle.rules.specs.Types.{Types, typesOf}
-use Rattle.names.specs.Table.{wordsAt}
+use Rattle.rules.specs.Check.{is-unsized}
 use Rattle.laws.proofs.Collect.{all-few, all-below}
-use Rattle.laws.proofs.LastItems.{length-last}
-use Rattle.typecheck.specs.Tables.{tabled}
-use Rattle.typecheck.specs.Post.{Given}
+use Rattle.typecheck_rows.specs.Tables.{tabled, UnsizedRows, RowTables, RowGiven}
+use Rattle.typecheck.specs.Tables.{LifetimeMutRows, VisitorGiven, ItemTables}
+use Rattle.typecheck.specs.Post.{Checkable, RowsGiven}
 
-module _ (w u l n : List ℕ) (t : Types) where
-  same-tables : wordsAt w 0 ≡ t .structs → wordsAt w 1 ≡ t .enums → wordsAt w 2 ≡ t .cxx → wordsAt w 3 ≡ t .rust → wordsAt w 4 ≡ t .aliases
-      → wordsAt w 5 ≡ t .untrusted → wordsAt w 6 ≡ t .requiredTrivial → u ≡ t .lastUntrusted → l ≡ t .lastType → n ≡ t .reasons → tabled w u l n t ≡ t
-  same-tables a b c d e f g h i j = rw (a, b, c, d, e, f, g, h, i, j)
+module _ {s w u l n scratch : List ℕ} {count : ℕ} (given : Checkable s w u l n scratch count) where
+  sets-held : tabled s w ≡ typesOf s
+  sets-held =
+      let g = given .collected in
+      rw (g .structs, g .enums, g .cxx, g .rust, g .aliases, g .untrusted-types, g .required-trivial)
 
-module _ {s w u l n scratch : List ℕ} {count : ℕ} (given : Given s w u l n scratch count) where
-  pub tables-hold : tabled w u l n (typesOf s) ≡ typesOf s
-  tables-hold =
-      same-tables w u l n (typesOf s) (given .structs) (given .enums) (given .cxx) (given .rust) (given .aliases)
-      (given .untrusted-types) (given .required-trivial) (given .last-untrusted) (given .last-type) (given .reason-counts)
+  pub visitor-given : VisitorGiven s l
+  visitor-given = record { accepted = given .accepted; last-type = given .collected .last-type }
 
-  pub untrusted-whole : length u ≡ 256
-  unfolding typesOf
-  untrusted-whole = ap length (given .last-untrusted) ∙ length-last s _ (items s)
+  module _ {sizes : List ℕ} (right : UnsizedRows s (tabled s w) sizes) where
+    row-tables : RowTables s w sizes
+    row-tables =
+        record {
+          accepted = given .accepted;
+          sets-held = sets-held;
+          sizes-right = λ r b. right r b ∙ ap (λ (t : Types). is-unsized s t r) sets-held;
+        }
 
-  pub last-whole : length l ≡ 256
-  unfolding typesOf
-  last-whole = ap length (given .last-type) ∙ length-last s _ (items s)
+    pub rows-given : RowsGiven s w sizes scratch count
+    rows-given = record { tables = row-tables; count = given .collected .count; row = given .collected .row }
 
-  module _ (acc : Accepted s) where
-    pub few : count ≤ 1024
-    few = rw (given .count) (all-few s acc)
+    pub item-tables : {muts : List ℕ} → LifetimeMutRows s (typesOf s) muts → ItemTables s w u l n sizes muts
+    item-tables found =
+        record {
+          rows = row-tables;
+          last-untrusted = given .collected .last-untrusted;
+          last-type = given .collected .last-type;
+          reason-counts = given .collected .reason-counts;
+          muts-right = found;
+        }
 
-    pub below : (k : ℕ) → k < count → getD (typesOf s .all) k 0 < rows s
-    below k m = all-below s acc k (rw (given .count) at m)
+-- ## The collected rows
+
+module _ {s w sizes scratch : List ℕ} {count : ℕ} (given : RowsGiven s w sizes scratch count) where
+  pub few : count ≤ 1024
+  few = rw (given .count) (all-few s (given .tables .accepted))
+
+  -- pair k of the scratch is a row
+  pub row-given : (k : ℕ) {r : ℕ} → k < count → r ≡ getD (typesOf s .all) k 0 → RowGiven s w sizes r
+  row-given k m e = record { tables = given .tables; below = rw e (all-below s (given .tables .accepted) k (rw (given .count) at m)) }

@@ -1,4 +1,6 @@
-pub mod Below
 pub mod ByKind
+pub mod ByName
 pub mod Collected
+pub mod Conjunction
+pub mod Meant
 pub mod Visitor

@@ -16,7 +16,7 @@ use Rattle.laws.proofs.Members.{in-head, in-tail, in-over}
 use Rattle.laws.proofs.Collect.Shown.{shown-falls, shown-fn}
 use Rattle.typecheck_rows.specs.Tables.{marked}
 use Rattle.typecheck_rows.proofs.Upward.{Right, Upward}
-use Rattle.typecheck.specs.Tables.{ArgsBelow, LifetimeMutRows}
+use Rattle.typecheck.specs.Tables.{LifetimeMutRows}
 use Rattle.typecheck.specs.Tests.{mutRow}
 
 -- ## Some entry passes
@@ -82,7 +82,7 @@ mut-rows s t u e right r l = sym (right r (rows s) (rw e l) l)
 
 -- the arguments of a function item
 module _ (s : List ℕ) (t : Types) (i : ℕ) (u : List ℕ) where
-  pub any-args : LifetimeMutRows s t u → ArgsBelow s i → anyOf (marked u) (args s i) ≡ anyOf (find-lifetime-mut s t (rows s)) (args s i)
+  pub any-args : LifetimeMutRows s t u → ((j : ℕ) → j < argCount s i → arg s i j < rows s) → anyOf (marked u) (args s i) ≡ anyOf (find-lifetime-mut s t (rows s)) (args s i)
   unfolding args entries arg argCount
   any-args right below =
       any-same (marked u) (find-lifetime-mut s t (rows s)) (args s i) (λ x h.

@@ -6,11 +6,12 @@ use mathlib.Core.List.{List, _++_}
 use lib.ListN.{length, getD}
 use Rattle.rules.specs.declared.Diagnostic.{Diagnostic}
 use Rattle.rules.specs.Base.{over}
-use Rattle.rules.specs.Format.{pairAt}
+use Rattle.rules.specs.Format.{pairAt, Accepted}
 use Rattle.rules.specs.View.{items}
 use Rattle.rules.specs.Types.{Types, typesOf}
 use Rattle.rules.specs.Check.{check-type, check-api}
 use Rattle.names.specs.Table.{wordsAt}
+use Rattle.typecheck_rows.specs.Tables.{RowTables}
 
 -- the tables hold what is collected from the sheet, and the scratch the collected rows
 pub record Given (s sets untrusted lastType reasons scratch : List ℕ) (rows : ℕ) : Type 0 where
@@ -27,6 +28,23 @@ pub record Given (s sets untrusted lastType reasons scratch : List ℕ) (rows : 
   pub count : rows ≡ length (typesOf s .all)
   pub row : (k : ℕ) → k < rows → pairAt scratch (2 * k) ≡ getD (typesOf s .all) k 0
 
+-- what `do_typecheck` is given: an accepted sheet, and what is collected from it
+pub record Checkable (s sets untrusted lastType reasons scratch : List ℕ) (rows : ℕ) : Type 0 where
+  pub accepted : Accepted s
+  pub collected : Given s sets untrusted lastType reasons scratch rows
+
+-- its first loop: the tables over the rows, and the collected rows in the scratch
+pub record RowsGiven (s sets sizes scratch : List ℕ) (rows : ℕ) : Type 0 where
+  pub tables : RowTables s sets sizes
+  pub count : rows ≡ length (typesOf s .all)
+  pub row : (k : ℕ) → k < rows → pairAt scratch (2 * k) ≡ getD (typesOf s .all) k 0
+
 -- the collected rows, then the items
+abbrev pub typeChecks : List ℕ → Types → List Diagnostic
+typeChecks s t = over (length (t .all)) (λ k. check-type s t (getD (t .all) k 0))
+
+abbrev pub apiChecks : List ℕ → Types → List Diagnostic
+apiChecks s t = over (items s) (check-api s t)
+
 abbrev pub checks : List ℕ → Types → List Diagnostic
-checks s t = over (length (t .all)) (λ k. check-type s t (getD (t .all) k 0)) ++ over (items s) (check-api s t)
+checks s t = typeChecks s t ++ apiChecks s t

@@ -1,97 +1,67 @@
--- What is collected, as it stands in the lent tables over the names; and what is known of the tables over the rows.
+-- What the checks of items are given: an accepted sheet, and lent tables that hold what is collected from it.
 -- Assumes nothing: these are definitions.
 use Prim.Native.Nat.{ℕ, _<_}
 use mathlib.Core.Path.{_≡_}
 use mathlib.Core.List.{List}
 use mathlib.Core.Bool.{true}
-use lib.ListN.{length}
-use Rattle.rules.specs.View.{rows, fieldCount, field, isMethod, selfType, argCount, arg, hasReturn, return}
-use Rattle.rules.specs.Types.{Types}
+use lib.ListN.{getD}
+use lib.Dec.{ltb}
+use Rattle.rules.specs.Base.{if_then_else_}
+use Rattle.rules.specs.Format.{Accepted}
+use Rattle.rules.specs.View.{Struct, rows, items, itemKind, isFunction}
+use Rattle.rules.specs.Types.{Types, typesOf}
 use Rattle.rules.specs.Check.{find-lifetime-mut}
-use Rattle.typecheck_rows.specs.Tables.{holding, marked, UnsizedRows}
+use Rattle.typecheck_rows.specs.Tables.{tabled, marked, RowTables}
 
--- t, with each name's last untrusted CxxType taken from the table
-abbrev pub withUntrusted : (untrusted : List ℕ) → Types → Types
-withUntrusted u t =
-    record {
-      all = t .all;
-      structs = t .structs;
-      enums = t .enums;
-      cxx = t .cxx;
-      rust = t .rust;
-      aliases = t .aliases;
-      untrusted = t .untrusted;
-      reasons = t .reasons;
-      requiredTrivial = t .requiredTrivial;
-      lastStruct = t .lastStruct;
-      lastUntrusted = u;
-      lastType = t .lastType;
-    }
-
--- each name's last item that is a type
-abbrev pub withLastType : (lastType : List ℕ) → Types → Types
-withLastType l t =
-    record {
-      all = t .all;
-      structs = t .structs;
-      enums = t .enums;
-      cxx = t .cxx;
-      rust = t .rust;
-      aliases = t .aliases;
-      untrusted = t .untrusted;
-      reasons = t .reasons;
-      requiredTrivial = t .requiredTrivial;
-      lastStruct = t .lastStruct;
-      lastUntrusted = t .lastUntrusted;
-      lastType = l;
-    }
-
--- each name's count of reasons
-abbrev pub withReasons : (reasons : List ℕ) → Types → Types
-withReasons n t =
-    record {
-      all = t .all;
-      structs = t .structs;
-      enums = t .enums;
-      cxx = t .cxx;
-      rust = t .rust;
-      aliases = t .aliases;
-      untrusted = t .untrusted;
-      reasons = n;
-      requiredTrivial = t .requiredTrivial;
-      lastStruct = t .lastStruct;
-      lastUntrusted = t .lastUntrusted;
-      lastType = t .lastType;
-    }
-
--- the field rows of struct i are rows
-abbrev pub FieldsBelow : (s : List ℕ) (i : ℕ) → Type 0
-FieldsBelow s i = (j : ℕ) → j < fieldCount s i → field s i j < rows s
-
--- and so are the argument rows of function i, and its return row where it has one
-abbrev pub ArgsBelow : (s : List ℕ) (i : ℕ) → Type 0
-ArgsBelow s i = (j : ℕ) → j < argCount s i → arg s i j < rows s
-
-abbrev pub ReturnBelow : (s : List ℕ) (i : ℕ) → Type 0
-ReturnBelow s i = hasReturn s i ≡ true → return s i < rows s
-
--- the self type of method i is a name
-abbrev pub SelfNamed : (s : List ℕ) (i : ℕ) → Type 0
-SelfNamed s i = isMethod s i ≡ true → selfType s i < 256
+-- what a table over the 256 names has for name n, or d where there is no such name
+abbrev pub byName : (table : List ℕ) (n d : ℕ) → ℕ
+byName u n d = if ltb n 256 then getD u n 0 else d
 
 -- the table of the rows in which `FindLifetimeMut` finds something
 abbrev pub LifetimeMutRows : (s : List ℕ) (t : Types) (table : List ℕ) → Type 0
 LifetimeMutRows s t u = (r : ℕ) → r < rows s → marked u r ≡ find-lifetime-mut s t (rows s) r
 
--- ## All tables
+-- ## One item
 
--- t, as it stands in the tables over the names
-abbrev pub tabled : (sets untrusted lastType reasons : List ℕ) → Types → Types
-tabled w u l n t = holding w (withUntrusted u (withLastType l (withReasons n t)))
+-- a struct: its fields are rows, and its name may have an untrusted CxxType
+pub record StructGiven (s sets untrusted sizes : List ℕ) (i : ℕ) : Type 0 where
+  pub rows : RowTables s sets sizes
+  pub last-untrusted : untrusted ≡ typesOf s .lastUntrusted
+  pub below : i < items s
+  pub struct : itemKind s i ≡ Struct
 
--- what a check of an item needs to know: the tables over the names have an entry for each name, and those over the rows are right
-pub record Ready (s sets untrusted lastType reasons sizes muts : List ℕ) (t : Types) : Type 0 where
-  pub untrusted-whole : length untrusted ≡ 256
-  pub last-whole : length lastType ≡ 256
-  pub sizes-right : UnsizedRows s (tabled sets untrusted lastType reasons t) sizes
-  pub muts-right : LifetimeMutRows s (tabled sets untrusted lastType reasons t) muts
+-- an extern type: its name may have to be trivial, for a number of reasons
+pub record TypeGiven (s sets reasons : List ℕ) : Type 0 where
+  pub sets-held : tabled s sets ≡ typesOf s
+  pub reason-counts : reasons ≡ typesOf s .reasons
+
+-- the visitor `FindLifetimeMut` looks names up
+pub record VisitorGiven (s lastType : List ℕ) : Type 0 where
+  pub accepted : Accepted s
+  pub last-type : lastType ≡ typesOf s .lastType
+
+-- a function, for its &mut return: what the visitor found in the rows is lent
+pub record MutReturnGiven (s lastType muts : List ℕ) (i : ℕ) : Type 0 where
+  pub visitor : VisitorGiven s lastType
+  pub muts-right : LifetimeMutRows s (typesOf s) muts
+  pub below : i < items s
+  pub function : isFunction s i ≡ true
+
+-- a function, for all of its checks
+pub record FunctionGiven (s sets lastType sizes muts : List ℕ) (i : ℕ) : Type 0 where
+  pub rows : RowTables s sets sizes
+  pub mut-return : MutReturnGiven s lastType muts i
+
+-- ## All items
+
+pub record ItemTables (s sets untrusted lastType reasons sizes muts : List ℕ) : Type 0 where
+  pub rows : RowTables s sets sizes
+  pub last-untrusted : untrusted ≡ typesOf s .lastUntrusted
+  pub last-type : lastType ≡ typesOf s .lastType
+  pub reason-counts : reasons ≡ typesOf s .reasons
+  pub muts-right : LifetimeMutRows s (typesOf s) muts
+
+-- the same, and one of the items
+pub record ItemGiven (s sets untrusted lastType reasons sizes muts : List ℕ) (i : ℕ) : Type 0 where
+  pub tables : ItemTables s sets untrusted lastType reasons sizes muts
+  pub below : i < items s

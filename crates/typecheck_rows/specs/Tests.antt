@@ -9,11 +9,12 @@ use Rattle.rules.specs.Names.{_∋_, isAtom}
 use Rattle.rules.specs.declared.Place.the-variants.{R, G}
 use Rattle.rules.specs.declared.Diagnostic.{Diagnostic}
 use Rattle.rules.specs.Base.{if_then_else_}
-use Rattle.rules.specs.Diagnostics.{say, when}
+use Rattle.rules.specs.Diagnostics.{say, tell, when, bit}
 use Rattle.rules.specs.View.{Ident, RustBox, RustVec, UniquePtr, SharedPtr, WeakPtr, CxxVector, Ref, Ptr, Str, SliceRef, Array, Fn, Void, flag1, flag2, is, rowName, rowFlags, inner, fnArg}
 use Rattle.rules.specs.Types.{Types}
-use Rattle.rules.specs.Check.{is-unsized-ident, is-unsized}
+use Rattle.rules.specs.Check.{is-unsized-ident}
 use Rattle.names.specs.Table.{wordsAt}
+use Rattle.typecheck_rows.specs.Tables.{marked}
 
 -- ## A name
 
@@ -49,12 +50,20 @@ module _ (s : List ℕ) (r : ℕ) where
   abbrev pub otherTarget : (a b : ℕ) → Bool
   otherTarget a b = plain && not (eqb target a || eqb target b)
 
-  -- a slice of it is supported
-  abbrev pub sliceElement : Types → Bool
-  sliceElement t = not (is-unsized s t (inner s r)) || (plain && (t .rust ∋ target || t .aliases ∋ target))
+  -- a slice of it is supported, by the table of the unsized rows
+  abbrev pub sliceElement : (sets sizes : List ℕ) → Bool
+  sliceElement w u = not (marked u (inner s r)) || (plain && (wordsAt w 3 ∋ target || wordsAt w 4 ∋ target))
 
   abbrev pub opaqueElement : (sets : List ℕ) → Bool
   opaqueElement w = plain && wordsAt w 2 ∋ target && not (wordsAt w 0 ∋ target) && not (wordsAt w 1 ∋ target)
+
+  -- ## Row r is a slice or an array: messages 23 and 24
+
+  abbrev pub sliceRef : (sets sizes : List ℕ) → List Diagnostic
+  sliceRef w u = when (not (sliceElement w u)) (tell 23 (R r) (bit (opaqueElement w)))
+
+  abbrev pub array : (sizes : List ℕ) → List Diagnostic
+  array u = when (marked u (inner s r)) (say 24 (R r))
 
   -- ## Row r is a reference or a function pointer
 

@@ -1,13 +1,11 @@
 // Which rows have no size that C++ and Rust share, and what to call a type: `is_unsized` and `describe`.
 ghost use mathlib.Core.Path.{_≡_};
 ghost use mathlib.Core.List.{List};
-ghost use Prim.Native.Nat.{ℕ, _<_};
+ghost use Prim.Native.Nat.{ℕ};
 ghost use Rattle.rules.specs.Diagnostics.{bit};
 ghost use Rattle.rules.specs.Format.{Accepted};
-ghost use Rattle.rules.specs.View.{rows};
-ghost use Rattle.rules.specs.Types.{Types};
-ghost use Rattle.rules.specs.Check.{is-unsized-ident, is-unsized, describe-ident, describe};
-ghost use Rattle.typecheck_rows.specs.Tables.{holding, marked, UnsizedRows};
+ghost use Rattle.rules.specs.Check.{is-unsized-ident, describe-ident, describe};
+ghost use Rattle.typecheck_rows.specs.Tables.{tabled, marked, UnsizedRows};
 ghost use Rattle.typecheck_rows.specs.Tests.{cxxUnsized, unsizedLeaf, unsizedRow, describeOther};
 use crate::kinds::ALIASES;
 use crate::kinds::ARRAY;
@@ -61,7 +59,7 @@ fn is_cxx_unsized(sets: &[u64; 28], n: u16) -> bool
 }
 
 fn is_unsized_ident(sets: &[u64; 28], n: u16) -> bool
-    ensures { λ x. ⌜ ((s : List ℕ) (t : Types) → x ≡ is-unsized-ident s (holding (now (sets .entry)) t) n) ⌝ }
+    ensures { λ x. ⌜ ((s : List ℕ) → x ≡ is-unsized-ident s (tabled s (now (sets .entry))) n) ⌝ }
 {
     or(
         or(n == CXX_STRING, is_cxx_unsized(sets, n)),
@@ -71,7 +69,7 @@ fn is_unsized_ident(sets: &[u64; 28], n: u16) -> bool
 
 // Row r, which is no array.
 fn is_unsized_leaf(s: &[u8], sets: &[u64; 28], r: u16) -> bool
-    ensures { λ x. ⌜ ((t : Types) → x ≡ unsizedLeaf (now (s .entry)) (holding (now (sets .entry)) t) r) ⌝ }
+    ensures { λ x. ⌜ x ≡ unsizedLeaf (now (s .entry)) (tabled (now (s .entry)) (now (sets .entry))) r ⌝ }
 {
     if is(s, IDENT, r) {
         return is_unsized_ident(sets, row_name(s, r));
@@ -81,7 +79,7 @@ fn is_unsized_leaf(s: &[u8], sets: &[u64; 28], r: u16) -> bool
 
 // Row r, where the table is right for smaller rows.
 fn is_unsized_row(s: &[u8], sets: &[u64; 28], table: &[u8; 1024], r: u16) -> bool
-    ensures { λ x. ⌜ ((t : Types) → x ≡ unsizedRow (now (s .entry)) (holding (now (sets .entry)) t) (marked (now (table .entry))) r) ⌝ }
+    ensures { λ x. ⌜ x ≡ unsizedRow (now (s .entry)) (tabled (now (s .entry)) (now (sets .entry))) (marked (now (table .entry))) r ⌝ }
 {
     if is(s, ARRAY, r) {
         return marked(table, inner(s, r));
@@ -99,7 +97,7 @@ pub fn mark(yes: bool) -> u8
 // The rows that are unsized. Rows refer to smaller rows, so one pass upward does it.
 pub fn unsized_rows(s: &[u8], sets: &[u64; 28]) -> [u8; 1024]
     requires { ⌜ Accepted (now s) ⌝ }
-    ensures { λ u. ⌜ ((t : Types) → UnsizedRows (now (s .entry)) (holding (now (sets .entry)) t) u) ⌝ }
+    ensures { λ u. ⌜ UnsizedRows (now (s .entry)) (tabled (now (s .entry)) (now (sets .entry))) u ⌝ }
 {
     let n = rows(s);
     let mut table = [0u8; 1024];
@@ -113,15 +111,15 @@ pub fn unsized_rows(s: &[u8], sets: &[u64; 28]) -> [u8; 1024]
     table
 }
 
-// Whether row r is unsized, by that table.
+// Whether row r is unsized, as that table has it.
 pub fn is_unsized(sizes: &[u8; 1024], r: u16) -> bool
-    ensures { λ x. ⌜ ((s : List ℕ) (t : Types) → UnsizedRows s t (now (sizes .entry)) → r < rows s → x ≡ is-unsized s t r) ⌝ }
+    ensures { λ x. ⌜ x ≡ marked (now (sizes .entry)) r ⌝ }
 {
     marked(sizes, r)
 }
 
 fn describe_ident(sets: &[u64; 28], n: u16) -> u16
-    ensures { λ x. ⌜ ((s : List ℕ) (t : Types) → x ≡ describe-ident s (holding (now (sets .entry)) t) n) ⌝ }
+    ensures { λ x. ⌜ ((s : List ℕ) → x ≡ describe-ident s (tabled s (now (sets .entry))) n) ⌝ }
 {
     let d = pick(n == CHAR, 7, 8);
     let d = pick(n == CXX_STRING, 6, d);
@@ -151,7 +149,7 @@ fn describe_other(k: u16) -> u16
 
 // The branch of check.rs's `describe`, 1 to 21 in text order.
 pub fn describe(s: &[u8], sets: &[u64; 28], r: u16) -> u16
-    ensures { λ x. ⌜ ((t : Types) → x ≡ describe (now (s .entry)) (holding (now (sets .entry)) t) r) ⌝ }
+    ensures { λ x. ⌜ x ≡ describe (now (s .entry)) (tabled (now (s .entry)) (now (sets .entry))) r ⌝ }
 {
     let k = kind(s, r);
     if k == IDENT {

@@ -5,18 +5,15 @@ use mathlib.Core.Path.{_≡_, refl, _∙_}
 use native.Mathlib.Omega.{arith}
 use lib.ListN.{length}
 use Rattle.rules.specs.Base.{over}
-use Rattle.rules.specs.Format.{Accepted}
-use Rattle.rules.specs.Types.{Types}
+use Rattle.rules.specs.Types.{typesOf}
 use Rattle.rules.specs.Check.{check-api}
 use Rattle.errors.specs.Sink.{Reported, start, turn, whole}
-use Rattle.typecheck.specs.Tables.{tabled, Ready}
 use Rattle.typecheck.proofs.check_apis.Statement.{statement}
 use Rattle.typecheck.proofs.check_apis.Tie as tie
 
 abbrev Inv-loop : tie.InvT-loop
 Inv-loop s sets untrusted last-type reasons sizes muts out₀ n e₀ j₀ out e j = (length out ≡ length out₀) × (j ≤ n) ×
-    ((t : Types) → Ready s sets untrusted last-type reasons sizes muts t → Accepted s
-    → Reported out₀ e₀ (over j (check-api s (tabled sets untrusted last-type reasons t))) e out)
+    Reported out₀ e₀ (over j (check-api s (typesOf s))) e out
 
 abbrev μ-loop : tie.MeasureT-loop
 μ-loop s sets untrusted last-type reasons sizes muts out₀ n e₀ j₀ out e j = n - j
@@ -25,27 +22,28 @@ items-requires : tie.Need-items-requires Inv-loop μ-loop
 items-requires c κs = search needs
 
 loop-holds : tie.Need-loop-holds Inv-loop μ-loop
-loop-holds c = (refl, omega arith, λ t q acc. start _ _ _)
+loop-holds c = (refl, omega arith, start _ _ _)
 
 add-j : tie.Need-add-j Inv-loop μ-loop
 add-j c = omega arith
 
 check-api-requires : tie.Need-check-api-requires Inv-loop μ-loop
-check-api-requires c κs = search needs
+check-api-requires c κs =
+    let items = c .before .before .before .items in
+    let loop-test = c .before .loop-test in
+    record { tables = c .before .before .before .before .before .before .pre; below = rw (items .ensures) at (loop-test .taken) }
 
 loop-less : tie.Need-loop-less Inv-loop μ-loop
 loop-less c = omega arith
 
 loop-again : tie.Need-loop-again Inv-loop μ-loop
 loop-again c =
-    let items = c .before .before .before .before .before .before .items in
     let loop = c .before .before .before .before .before .loop in
-    let loop-test = c .before .before .before .before .loop-test in
     let check-api = c .before .before .check-api in
     let at = loop in (
       check-api .kept .1 .1 .1 .1 .1 .1 .1 .1 .0 ∙ at .inv .0,
       omega arith,
-      λ t q acc. turn _ _ (at .inv .2 t q acc) (check-api .ensures t q acc (rw (items .ensures) at (loop-test .taken))),
+      turn _ _ (at .inv .2) (check-api .ensures),
     )
 
 same-length : tie.Need-same-length Inv-loop μ-loop
@@ -54,11 +52,11 @@ same-length c =
     loop .inv .0
 
 returns : tie.Need-returns Inv-loop μ-loop
-returns c = λ t q acc.
+returns c =
     let items = c .before .before .items in
     let loop = c .before .loop in
     let e : loop .j ≡ items .result = omega arith in
-    whole _ (loop .inv .2 t q acc) (e ∙ items .ensures)
+    whole _ (loop .inv .2) (e ∙ items .ensures)
 
 pub check-apis-spec : {M : Type 1} → statement M
 check-apis-spec =

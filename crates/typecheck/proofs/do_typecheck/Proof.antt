@@ -1,49 +1,36 @@
--- `typecheck::do_typecheck` meets its contract: the tables hold what is collected, so what the loops report of them is what is meant. Assumes nothing.
+-- `typecheck::do_typecheck` meets its contract: its two loops are given what is collected, and report one after the other. Assumes nothing.
 use borrow.Author.Needs.{needs}
-use mathlib.Core.Path.{ap}
-use Rattle.rules.specs.Types.{typesOf}
-use Rattle.errors.specs.Sink.{also, meant, whole}
-use Rattle.typecheck_rows.specs.Tables.{holding}
-use Rattle.typecheck.specs.Tables.{withUntrusted, withLastType, withReasons}
-use Rattle.typecheck.specs.Post.{checks}
-use Rattle.typecheck.proofs.Collected.{tables-hold, untrusted-whole, last-whole, few, below}
+use Rattle.errors.specs.Sink.{also}
+use Rattle.typecheck.proofs.Collected.{visitor-given, rows-given, item-tables}
 use Rattle.typecheck.proofs.do_typecheck.Statement.{statement}
 use Rattle.typecheck.proofs.do_typecheck.Tie as tie
 
 unsized-rows-requires : tie.Need-unsized-rows-requires
-unsized-rows-requires c κs = search needs
+unsized-rows-requires c κs = c .before .before .before .pre .accepted
 
 lifetime-mut-rows-requires : tie.Need-lifetime-mut-rows-requires
-lifetime-mut-rows-requires c κs = search needs
+lifetime-mut-rows-requires c κs = visitor-given (c .before .before .before .before .pre)
 
 check-types-requires : tie.Need-check-types-requires
-check-types-requires c κs = search needs
+check-types-requires c κs =
+    let unsized-rows = c .before .before .before .unsized-rows in
+    rows-given (c .before .before .before .before .before .before .before .pre) (unsized-rows .ensures)
 
 check-apis-requires : tie.Need-check-apis-requires
-check-apis-requires c κs = search needs
+check-apis-requires c κs =
+    let lifetime-mut-rows = c .before .before .before .before .before .before .before .before .lifetime-mut-rows in
+    let unsized-rows = c .before .before .before .before .before .before .before .before .before .unsized-rows in
+    item-tables (c .before .before .before .before .before .before .before .before .before .before .before .before .before .pre) (unsized-rows .ensures)
+    (lifetime-mut-rows .ensures)
 
 same-length : tie.Need-same-length
 same-length c = search needs
 
 returns : tie.Need-returns
-returns c = λ given.
-    let early = c .before .before .before .before .before .before .before .before .before .before .before .before in
-    let args = early .before .before .before .before .args in
-    let pre = early .before .before .before .before .pre in
-    let unsized-rows = early .unsized-rows in
-    let lifetime-mut-rows = c .before .before .before .before .before .before .before .before .before .before .before .lifetime-mut-rows in
+returns c =
     let check-types = c .before .before .before .before .before .before .before .before .check-types in
     let check-apis = c .before .before .check-apis in
-    let t = typesOf (args .s .now) in
-    let over-names = withUntrusted (args .untrusted .now) (withLastType (args .last-type .now) (withReasons (args .reasons .now) t)) in
-    let rows = check-types .ensures over-names (t .all) (unsized-rows .ensures over-names) pre (few given pre) (given .row) (below given pre) in
-    let items = check-apis .ensures t (record {
-      untrusted-whole = untrusted-whole given;
-      last-whole = last-whole given;
-      sizes-right = unsized-rows .ensures over-names;
-      muts-right = lifetime-mut-rows .ensures (holding (args .sets .now) over-names) (last-whole given);
-    }) pre in
-    meant (also (whole _ rows (given .count)) items) (ap (checks (args .s .now)) (tables-hold given))
+    also (check-types .ensures) (check-apis .ensures)
 
 pub do-typecheck-spec : {M : Type 1} → statement M
 do-typecheck-spec =

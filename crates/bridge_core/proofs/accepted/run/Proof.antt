@@ -25,8 +25,9 @@ search-requires c κs =
 do-typecheck-requires : tie.Need-do-typecheck-requires
 do-typecheck-requires c κs =
     let sorted = c .before .before .before .before .before .before .before .before .before .before .before .before .before .before .before .before .before .before .before .before in
-    let start = sorted .before .before .before .before .before .before .before .before .before .before .before .before .before .before .before .before in
-    start .pre .accepted
+    let collected = sorted .before .before .before .before .before .before .before .before .before .before in
+    let start = collected .before .before .before .before .before .before in
+    record { accepted = start .pre .accepted; collected = given (collected .collect .ensures) }
 
 clear-requires : tie.Need-clear-requires
 clear-requires c κs =
@@ -62,8 +63,7 @@ returns c =
     let collected = sorted .before .before .before .before .before .before .before .before .before .before in
     let start = collected .before .before .before .before .before .before in
     let found = collected .collect .ensures in
-    let told = checks .do-typecheck .ensures (given found) in
-    checked found (sorted .sort .ensures) told (start .pre .accepted) refl (tiered .tiers .ensures) (searched .search .ensures) (cleared .clear .ensures) (c .accepted .ensures)
+    checked found (sorted .sort .ensures) (checks .do-typecheck .ensures) (start .pre .accepted) refl (tiered .tiers .ensures) (searched .search .ensures) (cleared .clear .ensures) (c .accepted .ensures)
 
 pub run-spec : {M : Type 1} → statement M
 run-spec =

@@ -1,10 +1,10 @@
 -- `typecheck::functions::check_api_fn` meets its contract: its parts report one after the other. Assumes nothing.
 use borrow.Author.Needs.{needs}
 use mathlib.Core.Path.{_∙_}
-use Rattle.errors.specs.Sink.{also}
+use Rattle.errors.specs.Sink.{also, meant}
 use Rattle.rules.specs.Check.{check-api-fn}
-use Rattle.typecheck_rows.specs.Tables.{holding}
-use Rattle.typecheck.specs.Tables.{withLastType}
+use Rattle.laws.proofs.Accepted.Items.{item-of}
+use Rattle.typecheck.proofs.Meant.{kind-meant, args-meant, return-meant}
 use Rattle.typecheck.proofs.functions.check_api_fn.Statement.{statement}
 use Rattle.typecheck.proofs.functions.check_api_fn.Tie as tie
 
@@ -24,7 +24,9 @@ check-fn-return-requires : tie.Need-check-fn-return-requires
 check-fn-return-requires c κs = search needs
 
 check-fn-mut-return-requires : tie.Need-check-fn-mut-return-requires
-check-fn-mut-return-requires c κs = search needs
+check-fn-mut-return-requires c κs =
+    let early = c .before .before .before .before .before .before .before .before .before .before .before .before in
+    early .before .before .before .before .before .before .before .before .before .before .before .pre .mut-return
 
 same-length : tie.Need-same-length
 same-length c =
@@ -40,20 +42,22 @@ same-length c =
 
 returns : tie.Need-returns
 unfolding check-api-fn
-returns c = λ t u m a r l n.
+returns c =
     let early = c .before .before .before .before .before .before .before .before .before .before .before .before in
-    let args = early .before .before .before .before .before .before .before .before .before .before .before .before .before .before .args in
+    let given = early .before .before .before .before .before .before .before .before .before .before .before .before .before .before .pre in
     let check-fn-generics = early .before .before .before .before .before .before .before .before .before .before .check-fn-generics in
     let check-lifetimes = early .before .before .before .before .before .before .check-lifetimes in
     let check-fn-kind = early .before .before .check-fn-kind in
     let check-fn-args = c .before .before .before .before .before .before .before .before .before .before .check-fn-args in
     let check-fn-return = c .before .before .before .before .before .before .check-fn-return in
     let check-fn-mut-return = c .before .before .check-fn-mut-return in
-    let T = holding (args .sets .now) (withLastType (args .last-type .now) t) in
+    let function = item-of _ (given .rows .accepted) _ (given .mut-return .below) .as-function (given .mut-return .function) in
     also (also (also (also (also
-    (check-fn-generics .ensures T) (check-lifetimes .ensures T)) (check-fn-kind .ensures T))
-    (check-fn-args .ensures (withLastType _ t) u a)) (check-fn-return .ensures (withLastType _ t) u r))
-    (check-fn-mut-return .ensures (holding _ t) m a l n)
+    (check-fn-generics .ensures) (check-lifetimes .ensures))
+    (meant (check-fn-kind .ensures) (kind-meant (given .rows) _)))
+    (meant (check-fn-args .ensures) (args-meant (given .rows) _ function)))
+    (meant (check-fn-return .ensures) (return-meant (given .rows) _ function)))
+    (check-fn-mut-return .ensures)
 
 pub check-api-fn-spec : {M : Type 1} → statement M
 check-api-fn-spec =

@@ -1,24 +1,20 @@
 -- `typecheck::functions::check_fn_args` meets its contract: the arguments before j have given their messages. Assumes nothing.
 use borrow.Author.Needs.{needs}
 use Prim.Native.Nat.{_≤_, _-_}
-use mathlib.Core.Path.{_≡_, refl, _∙_, ap}
+use mathlib.Core.Path.{_≡_, refl, _∙_}
 use native.Mathlib.Omega.{arith}
 use lib.ListN.{length}
 use Rattle.rules.specs.Base.{over}
-use Rattle.rules.specs.Types.{Types}
-use Rattle.rules.specs.View.{arg, argCount}
+use Rattle.rules.specs.View.{RustFunction, itemIs, functionUnsafe, arg, argCount}
 use Rattle.errors.specs.Sink.{Reported, start, turn, whole}
 use mathlib.Core.Bool.{not}
-use Rattle.rules.specs.Check.{check-fn-arg}
-use Rattle.typecheck_rows.specs.Tables.{holding, UnsizedRows}
-use Rattle.typecheck.specs.Tables.{ArgsBelow}
-use Rattle.typecheck.proofs.Below.{arg-below}
+use Rattle.typecheck.specs.Tests.{functionArg}
 use Rattle.typecheck.proofs.functions.check_fn_args.Statement.{statement}
 use Rattle.typecheck.proofs.functions.check_fn_args.Tie as tie
 
 abbrev Inv-loop : tie.InvT-loop
 Inv-loop s sets sizes out₀ i rust safe place n e₀ j₀ out e j = (length out ≡ length out₀) × (j ≤ n) ×
-    ((t : Types) → UnsizedRows s (holding sets t) sizes → ArgsBelow s i → Reported out₀ e₀ (over j (check-fn-arg s (holding sets t) i)) e out)
+    Reported out₀ e₀ (over j (λ k. functionArg s sets sizes i k (arg s i k) (itemIs s RustFunction i) (not (functionUnsafe s i)))) e out
 
 abbrev μ-loop : tie.MeasureT-loop
 μ-loop s sets sizes out₀ i rust safe place n e₀ j₀ out e j = n - j
@@ -42,7 +38,7 @@ pair-at-requires : tie.Need-pair-at-requires Inv-loop μ-loop
 pair-at-requires c κs = search needs
 
 loop-holds : tie.Need-loop-holds Inv-loop μ-loop
-loop-holds c = (refl, omega arith, λ t u b. start _ _ _)
+loop-holds c = (refl, omega arith, start _ _ _)
 
 add-j : tie.Need-add-j Inv-loop μ-loop
 add-j c = omega arith
@@ -57,24 +53,18 @@ loop-less : tie.Need-loop-less Inv-loop μ-loop
 loop-less c = omega arith
 
 loop-again : tie.Need-loop-again Inv-loop μ-loop
-unfolding arg argCount
+unfolding arg
 loop-again c =
-    let args = c .before .before .before .before .before .before .before .before .before .before .before .before .before .args in
     let item-is = c .before .before .before .before .before .before .before .before .before .before .item-is in
     let function-unsafe = c .before .before .before .before .before .before .before .before .before .function-unsafe in
     let return-place = c .before .before .before .before .before .before .before .before .return-place in
-    let pair-at = c .before .before .before .before .before .before .before .pair-at in
     let loop = c .before .before .before .before .before .before .loop in
-    let loop-test = c .before .before .before .before .before .loop-test in
     let arg-at = c .before .before .before .before .arg-at in
     let check-fn-arg = c .before .before .check-fn-arg in
     let at = loop in (
       check-fn-arg .kept .1 .1 .1 .1 .0 ∙ at .inv .0,
       omega arith,
-      λ t u b. turn _ _ (at .inv .2 t u b)
-          (check-fn-arg .ensures t u (rw (return-place .ensures) at (arg-at .ensures))
-          (arg-below (args .s .now) _ _ b (rw (return-place .ensures) at (arg-at .ensures))
-          (rw (pair-at .ensures, return-place .ensures) at (loop-test .taken))) (item-is .ensures) (ap not (function-unsafe .ensures))),
+      turn _ _ (at .inv .2) (rw (rw (return-place .ensures) at (arg-at .ensures), item-is .ensures, function-unsafe .ensures) at (check-fn-arg .ensures)),
     )
 
 same-length : tie.Need-same-length Inv-loop μ-loop
@@ -84,11 +74,11 @@ same-length c =
 
 returns : tie.Need-returns Inv-loop μ-loop
 unfolding argCount
-returns c = λ t u b.
+returns c =
     let return-place = c .before .before .before .return-place in
     let pair-at = c .before .before .pair-at in
     let loop = c .before .loop in
-    let e : loop .j ≡ pair-at .result = omega arith in whole _ (loop .inv .2 t u b) (e ∙ (rw (return-place .ensures) at (pair-at .ensures)))
+    let e : loop .j ≡ pair-at .result = omega arith in whole _ (loop .inv .2) (e ∙ (rw (return-place .ensures) at (pair-at .ensures)))
 
 pub check-fn-args-spec : {M : Type 1} → statement M
 check-fn-args-spec =

@@ -25,7 +25,7 @@ same-length c = search needs
 
 returns : tie.Need-returns
 unfolding check-fn-generics
-returns c = λ t.
+returns c =
     let lifetime-count = c .before .before .before .before .before .before .before .before .lifetime-count in
     let item-is = c .before .before .before .before .before .before .before .item-is in
     let if1 = c .before .before .before .before .before .before .if1 in
@@ -49,7 +49,7 @@ same-length-2 c = search needs
 
 returns-2 : tie.Need-returns-2
 unfolding check-fn-generics
-returns-2 c = λ t.
+returns-2 c =
     let lifetime-count = c .before .before .before .before .before .before .before .before .lifetime-count in
     let item-is = c .before .before .before .before .before .before .before .item-is in
     let if1 = c .before .before .before .before .before .before .if1 in

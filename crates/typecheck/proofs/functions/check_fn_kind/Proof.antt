@@ -14,17 +14,17 @@ same-length : tie.Need-same-length
 same-length c = search needs
 
 returns : tie.Need-returns
-returns c = λ t.
+returns c =
     let is-method = c .before .before .before .before .before .is-method in
     let if1 = c .before .before .before .before .if1 in
     let check-fn-receiver = c .before .before .check-fn-receiver in
-    taken _ _ (if1 .taken) (check-fn-receiver .ensures t) (is-method .ensures)
+    taken _ _ (if1 .taken) (check-fn-receiver .ensures) (is-method .ensures)
 
 is-free-requires : tie.Need-is-free-requires
 is-free-requires c κs = search needs
 
 returns-2 : tie.Need-returns-2
-returns-2 c = λ t.
+returns-2 c =
     let is-method = c .before .before .before .is-method in
     let if1 = c .before .before .if1 in
     let is-free = c .before .is-free in
@@ -37,13 +37,13 @@ same-length-2 : tie.Need-same-length-2
 same-length-2 c = search needs
 
 returns-3 : tie.Need-returns-3
-returns-3 c = λ t.
+returns-3 c =
     let is-method = c .before .before .before .before .before .before .before .is-method in
     let if1 = c .before .before .before .before .before .before .if1 in
     let is-free = c .before .before .before .before .before .is-free in
     let if2 = c .before .before .before .before .if2 in
     let check-fn-self-type = c .before .before .check-fn-self-type in
-    left _ _ (if1 .left) (left _ _ (if2 .left) (check-fn-self-type .ensures t) (is-free .ensures)) (is-method .ensures)
+    left _ _ (if1 .left) (left _ _ (if2 .left) (check-fn-self-type .ensures) (is-free .ensures)) (is-method .ensures)
 
 pub check-fn-kind-spec : {M : Type 1} → statement M
 check-fn-kind-spec =

@@ -14,22 +14,22 @@ and-requires : tie.Need-and-requires
 and-requires c κs = search needs
 
 check-mut-return-restriction-requires : tie.Need-check-mut-return-restriction-requires
-check-mut-return-restriction-requires c κs = search needs
+check-mut-return-restriction-requires c κs = c .before .before .before .before .before .before .before .pre
 
 same-length : tie.Need-same-length
 same-length c = search needs
 
 returns : tie.Need-returns
-returns c = λ t m b u n.
+returns c =
     let item-is = c .before .before .before .before .before .before .before .item-is in
     let function-unwind = c .before .before .before .before .before .before .function-unwind in
     let and = c .before .before .before .before .before .and in
     let if1 = c .before .before .before .before .if1 in
     let check-mut-return-restriction = c .before .before .check-mut-return-restriction in
-    taken _ _ (if1 .taken) (check-mut-return-restriction .ensures t m b u n) (rw (item-is .ensures, function-unwind .ensures) at (and .ensures))
+    taken _ _ (if1 .taken) (check-mut-return-restriction .ensures) (rw (item-is .ensures, function-unwind .ensures) at (and .ensures))
 
 returns-2 : tie.Need-returns-2
-returns-2 c = λ t m b u n.
+returns-2 c =
     let item-is = c .before .before .before .item-is in
     let function-unwind = c .before .before .function-unwind in
     let and = c .before .and in

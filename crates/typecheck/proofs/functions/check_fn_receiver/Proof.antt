@@ -18,7 +18,7 @@ same-length c = search needs
 
 returns : tie.Need-returns
 unfolding check-fn-receiver when
-returns c = λ t.
+returns c =
     let self-type = c .before .before .before .before .before .self-type in
     let if1 = c .before .before .before .before .if1 in
     let item-error = c .before .before .item-error in
@@ -35,7 +35,7 @@ same-length-2 c = search needs
 
 returns-2 : tie.Need-returns-2
 unfolding check-fn-receiver when
-returns-2 c = λ t.
+returns-2 c =
     let self-type = c .before .before .before .before .before .before .before .self-type in
     let if1 = c .before .before .before .before .before .before .if1 in
     let has = c .before .before .before .before .before .has in
@@ -55,7 +55,7 @@ same-length-3 c = search needs
 
 returns-3 : tie.Need-returns-3
 unfolding check-fn-receiver when
-returns-3 c = λ t.
+returns-3 c =
     let self-type = c .before .before .before .before .before .before .before .before .before .self-type in
     let if1 = c .before .before .before .before .before .before .before .before .if1 in
     let has = c .before .before .before .before .before .before .before .has in
@@ -82,7 +82,7 @@ same-length-4 c = search needs
 
 returns-4 : tie.Need-returns-4
 unfolding check-fn-receiver when
-returns-4 c = λ t.
+returns-4 c =
     let self-type = c .before .before .before .before .before .before .before .before .before .before .before .self-type in
     let if1 = c .before .before .before .before .before .before .before .before .before .before .if1 in
     let has = c .before .before .before .before .before .before .before .before .before .has in

@@ -1,11 +1,9 @@
 -- `typecheck::functions::check_fn_return` meets its contract: each test that the code makes is that of the definition. Assumes nothing.
 use borrow.Author.Needs.{needs}
-use mathlib.Core.Path.{ap, sym, _∙_}
+use mathlib.Core.Path.{ap}
 use mathlib.Core.Bool.{not}
-use borrow.Author.Tests.{not-false}
 use Rattle.rules.specs.Diagnostics.{when}
 use Rattle.errors.specs.Sink.{taken, left, when-taken, when-left, none}
-use Rattle.rules.specs.Check.{check-fn-return}
 use Rattle.typecheck.proofs.functions.check_fn_return.Statement.{statement}
 use Rattle.typecheck.proofs.functions.check_fn_return.Tie as tie
 
@@ -13,8 +11,8 @@ has-return-requires : tie.Need-has-return-requires
 has-return-requires c κs = search needs
 
 returns : tie.Need-returns
-unfolding check-fn-return when
-returns c = λ t u b.
+unfolding when
+returns c =
     let has-return = c .before .has-return in
     taken _ _ (c .if1 .taken) (none _ _) (ap not (has-return .ensures))
 
@@ -31,8 +29,8 @@ same-length : tie.Need-same-length
 same-length c = search needs
 
 returns-2 : tie.Need-returns-2
-unfolding check-fn-return when
-returns-2 c = λ t u b.
+unfolding when
+returns-2 c =
     let has-return = c .before .before .before .before .before .before .before .before .has-return in
     let if1 = c .before .before .before .before .before .before .before .if1 in
     let return-row = c .before .before .before .before .before .before .return-row in
@@ -54,8 +52,8 @@ same-length-2 : tie.Need-same-length-2
 same-length-2 c = search needs
 
 returns-3 : tie.Need-returns-3
-unfolding check-fn-return when
-returns-3 c = λ t u b.
+unfolding when
+returns-3 c =
     let has-return = c .before .before .before .before .before .before .before .before .before .before .before .has-return in
     let if1 = c .before .before .before .before .before .before .before .before .before .before .if1 in
     let return-row = c .before .before .before .before .before .before .before .before .before .return-row in
@@ -67,14 +65,14 @@ returns-3 c = λ t u b.
     let return-error2 = c .before .before .return-error2 in
     left _ _ (if1 .left)
     (left _ _ (if2 .left)
-    (when-taken _ (if3 .taken) (rw (describe .ensures t, return-row .ensures) at (return-error2 .ensures))
-    (rw (return-row .ensures) at (is-unsized .ensures _ _ u (rw (return-row .ensures) (b (sym (has-return .ensures) ∙ not-false _ (if1 .left)))))))
+    (when-taken _ (if3 .taken) (rw (describe .ensures, return-row .ensures) at (return-error2 .ensures))
+    (rw (return-row .ensures) at (is-unsized .ensures)))
     (rw (return-row .ensures) at (is .ensures)))
     (ap not (has-return .ensures))
 
 returns-4 : tie.Need-returns-4
-unfolding check-fn-return when
-returns-4 c = λ t u b.
+unfolding when
+returns-4 c =
     let has-return = c .before .before .before .before .before .before .has-return in
     let if1 = c .before .before .before .before .before .if1 in
     let return-row = c .before .before .before .before .return-row in
@@ -83,7 +81,7 @@ returns-4 c = λ t u b.
     let is-unsized = c .before .is-unsized in
     left _ _ (if1 .left)
     (left _ _ (if2 .left) (when-left _ (c .if3 .left) (none _ _)
-    (rw (return-row .ensures) at (is-unsized .ensures _ _ u (rw (return-row .ensures) (b (sym (has-return .ensures) ∙ not-false _ (if1 .left)))))))
+    (rw (return-row .ensures) at (is-unsized .ensures)))
     (rw (return-row .ensures) at (is .ensures)))
     (ap not (has-return .ensures))
 

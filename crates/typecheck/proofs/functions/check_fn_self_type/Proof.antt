@@ -20,7 +20,7 @@ same-length c = search needs
 
 returns : tie.Need-returns
 unfolding check-fn-self-type when
-returns c = λ t.
+returns c =
     let self-type = c .before .before .before .before .before .before .self-type in
     let has = c .before .before .before .before .before .has in
     let if1 = c .before .before .before .before .if1 in
@@ -38,7 +38,7 @@ same-length-2 c = search needs
 
 returns-2 : tie.Need-returns-2
 unfolding check-fn-self-type when
-returns-2 c = λ t.
+returns-2 c =
     let self-type = c .before .before .before .before .before .before .before .self-type in
     let has = c .before .before .before .before .before .before .has in
     let if1 = c .before .before .before .before .before .if1 in

@@ -31,7 +31,7 @@ same-length c = search needs
 
 returns : tie.Need-returns
 unfolding check-api-enum
-returns c = λ t.
+returns c =
     let early = c .before .before .before .before .before .before .before .before .before .before .before .before in
     let check-reserved-name = early .before .before .before .before .before .check-reserved-name in
     let check-lifetimes = early .before .check-lifetimes in
@@ -41,9 +41,9 @@ returns c = λ t.
     let item-error = c .before .before .before .before .before .before .item-error in
     let check-enum-derives = c .before .before .check-enum-derives in
     also
-    (also-if _ (also (check-reserved-name .ensures t) (check-lifetimes .ensures t)) (item-error .ensures)
+    (also-if _ (also (check-reserved-name .ensures) (check-lifetimes .ensures)) (item-error .ensures)
     (rw (enum-variants .ensures, enum-explicit .ensures) at (and .ensures)))
-    (check-enum-derives .ensures t)
+    (check-enum-derives .ensures)
 
 pub check-api-enum-spec : {M : Type 1} → statement M
 check-api-enum-spec =

@@ -16,10 +16,10 @@ same-length c = search needs
 
 returns : tie.Need-returns
 unfolding check-api-impl
-returns c = λ t.
+returns c =
     let check-lifetimes = c .before .before .before .before .before .before .check-lifetimes in
     let check-impl-self = c .before .before .check-impl-self in
-    also (check-lifetimes .ensures t) (check-impl-self .ensures t)
+    also (check-lifetimes .ensures) (check-impl-self .ensures)
 
 pub check-api-impl-spec : {M : Type 1} → statement M
 check-api-impl-spec =

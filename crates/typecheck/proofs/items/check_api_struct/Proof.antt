@@ -1,10 +1,10 @@
 -- `typecheck::items::check_api_struct` meets its contract: its parts report one after the other. Assumes nothing.
 use borrow.Author.Needs.{needs}
 use mathlib.Core.Path.{_∙_}
-use Rattle.errors.specs.Sink.{also, also-if}
+use Rattle.errors.specs.Sink.{also, also-if, meant}
 use Rattle.rules.specs.Check.{check-api-struct}
-use Rattle.typecheck_rows.specs.Tables.{holding}
-use Rattle.typecheck.specs.Tables.{withUntrusted}
+use Rattle.laws.proofs.Accepted.Items.{item-of}
+use Rattle.typecheck.proofs.Meant.{untrusted-meant, fields-meant}
 use Rattle.typecheck.proofs.items.check_api_struct.Statement.{statement}
 use Rattle.typecheck.proofs.items.check_api_struct.Tie as tie
 
@@ -43,9 +43,9 @@ same-length c =
 
 returns : tie.Need-returns
 unfolding check-api-struct
-returns c = λ t u b n l.
+returns c =
     let early = c .before .before .before .before .before .before .before .before .before .before .before .before in
-    let args = early .before .before .before .before .before .before .before .before .before .before .before .before .before .before .before .args in
+    let given = early .before .before .before .before .before .before .before .before .before .before .before .before .before .before .before .pre in
     let check-reserved-name = early .before .before .before .before .before .before .before .before .before .before .before .check-reserved-name in
     let check-lifetimes = early .before .before .before .before .before .before .before .check-lifetimes in
     let field-count = early .before .before .before .field-count in
@@ -53,10 +53,10 @@ returns c = λ t u b n l.
     let check-untrusted = c .before .before .before .before .before .before .before .before .before .before .check-untrusted in
     let check-struct-derives = c .before .before .before .before .before .before .check-struct-derives in
     let check-struct-fields = c .before .before .check-struct-fields in
-    let T = holding (args .sets .now) (withUntrusted (args .untrusted .now) t) in
+    let fields = item-of _ (given .rows .accepted) _ (given .below) .as-struct (given .struct) .field-below in
     also (also (also
-    (also-if _ (also (check-reserved-name .ensures T) (check-lifetimes .ensures T)) (item-error .ensures) (rw (field-count .ensures)))
-    (check-untrusted .ensures n l)) (check-struct-derives .ensures T)) (check-struct-fields .ensures (withUntrusted _ t) u b)
+    (also-if _ (also (check-reserved-name .ensures) (check-lifetimes .ensures)) (item-error .ensures) (rw (field-count .ensures)))
+    (meant (check-untrusted .ensures) (untrusted-meant _ _ (given .rows .sets-held) _ (given .last-untrusted)))) (check-struct-derives .ensures)) (meant (check-struct-fields .ensures) (fields-meant (given .rows) _ fields))
 
 pub check-api-struct-spec : {M : Type 1} → statement M
 check-api-struct-spec =

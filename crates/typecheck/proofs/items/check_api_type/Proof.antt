@@ -1,9 +1,8 @@
 -- `typecheck::items::check_api_type` meets its contract: its parts report one after the other. Assumes nothing.
 use borrow.Author.Needs.{needs}
-use Rattle.errors.specs.Sink.{also, also-if}
+use Rattle.errors.specs.Sink.{also, also-if, meant}
 use Rattle.rules.specs.Check.{check-api-type}
-use Rattle.typecheck_rows.specs.Tables.{holding}
-use Rattle.typecheck.specs.Tables.{withReasons}
+use Rattle.typecheck.proofs.Meant.{required-meant}
 use Rattle.typecheck.proofs.items.check_api_type.Statement.{statement}
 use Rattle.typecheck.proofs.items.check_api_type.Tie as tie
 
@@ -30,20 +29,19 @@ same-length c = search needs
 
 returns : tie.Need-returns
 unfolding check-api-type
-returns c = λ t l.
+returns c =
     let early = c .before .before .before .before .before .before .before .before .before .before .before .before in
-    let args = early .before .before .before .before .before .before .before .before .before .before .before .args in
+    let given = early .before .before .before .before .before .before .before .before .before .before .before .pre in
     let check-reserved-name = early .before .before .before .before .before .before .before .check-reserved-name in
     let check-lifetimes = early .before .before .before .check-lifetimes in
     let check-opaque-derives = c .before .before .before .before .before .before .before .before .before .before .before .check-opaque-derives in
     let type-bounds = c .before .before .before .before .before .before .before .type-bounds in
     let item-error = c .before .before .before .before .before .before .item-error in
     let check-required-trivial = c .before .before .check-required-trivial in
-    let T = holding (args .sets .now) (withReasons (args .reasons .now) t) in
     also
-    (also-if _ (also (also (check-reserved-name .ensures T) (check-lifetimes .ensures T)) (check-opaque-derives .ensures T)) (item-error .ensures)
+    (also-if _ (also (also (check-reserved-name .ensures) (check-lifetimes .ensures)) (check-opaque-derives .ensures)) (item-error .ensures)
     (type-bounds .ensures))
-    (check-required-trivial .ensures l)
+    (meant (check-required-trivial .ensures) (required-meant _ _ (given .sets-held) _ (given .reason-counts)))
 
 pub check-api-type-spec : {M : Type 1} → statement M
 check-api-type-spec =

@@ -16,10 +16,10 @@ same-length c = search needs
 
 returns : tie.Need-returns
 unfolding check-api-type-alias
-returns c = λ t.
+returns c =
     let check-lifetimes = c .before .before .before .before .before .before .check-lifetimes in
     let check-alias-derives = c .before .before .check-alias-derives in
-    also (check-lifetimes .ensures t) (check-alias-derives .ensures)
+    also (check-lifetimes .ensures) (check-alias-derives .ensures)
 
 pub check-api-type-alias-spec : {M : Type 1} → statement M
 check-api-type-alias-spec =

@@ -1,8 +1,6 @@
 -- `typecheck::items::check_enum_derive` meets its contract: its parts report one after the other. Assumes nothing.
 use borrow.Author.Needs.{needs}
-use Rattle.errors.specs.Sink.{also-if, meant-if}
-use Rattle.rules.specs.Check.{check-enum-derive}
-use Rattle.typecheck_rows.proofs.Details.{detailed}
+use Rattle.errors.specs.Sink.{also, meant-if}
 use Rattle.typecheck.proofs.items.check_enum_derive.Statement.{statement}
 use Rattle.typecheck.proofs.items.check_enum_derive.Tie as tie
 
@@ -19,12 +17,11 @@ same-length : tie.Need-same-length
 same-length c = search needs
 
 returns : tie.Need-returns
-unfolding check-enum-derive
-returns c = λ s t q d.
+returns c =
     let and = c .before .before .before .before .before .before .before .before .and in
     let derive-error = c .before .before .before .before .before .before .derive-error in
     let derive-error2 = c .before .before .derive-error2 in
-    also-if _ (meant-if _ (detailed _ _ _ (derive-error .ensures) d) (rw (q, d) at (and .ensures))) (derive-error2 .ensures) (rw q)
+    also (meant-if _ (derive-error .ensures) (and .ensures)) (derive-error2 .ensures)
 
 pub check-enum-derive-spec : {M : Type 1} → statement M
 check-enum-derive-spec =

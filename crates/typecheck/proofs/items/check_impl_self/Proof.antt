@@ -22,7 +22,7 @@ same-length c = search needs
 
 returns : tie.Need-returns
 unfolding check-impl-self when
-returns c = λ t.
+returns c =
     let impl-negative = c .before .before .before .before .before .impl-negative in
     let if1 = c .before .before .before .before .if1 in
     let item-error = c .before .before .item-error in
@@ -39,7 +39,7 @@ same-length-2 c = search needs
 
 returns-2 : tie.Need-returns-2
 unfolding check-impl-self when
-returns-2 c = λ t.
+returns-2 c =
     let impl-row = c .before .before .before .before .before .before .before .before .impl-row in
     let impl-negative = c .before .before .before .before .before .before .before .impl-negative in
     let if1 = c .before .before .before .before .before .before .if1 in
@@ -60,7 +60,7 @@ same-length-3 c = search needs
 
 returns-3 : tie.Need-returns-3
 unfolding check-impl-self when
-returns-3 c = λ t.
+returns-3 c =
     let impl-row = c .before .before .before .before .before .before .before .before .before .impl-row in
     let impl-negative = c .before .before .before .before .before .before .before .before .impl-negative in
     let if1 = c .before .before .before .before .before .before .before .if1 in

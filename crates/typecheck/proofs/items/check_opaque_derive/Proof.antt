@@ -3,7 +3,6 @@ use borrow.Author.Needs.{needs}
 use mathlib.Core.Path.{ap}
 use mathlib.Core.Bool.{not}
 use Rattle.errors.specs.Sink.{meant-if}
-use Rattle.rules.specs.Check.{check-opaque-derive}
 use Rattle.typecheck.proofs.items.check_opaque_derive.Statement.{statement}
 use Rattle.typecheck.proofs.items.check_opaque_derive.Tie as tie
 
@@ -17,11 +16,10 @@ same-length : tie.Need-same-length
 same-length c = search needs
 
 returns : tie.Need-returns
-unfolding check-opaque-derive
-returns c = λ s t q r.
+returns c =
     let and = c .before .before .before .and in
     let derive-error = c .before .before .derive-error in
-    meant-if _ (derive-error .ensures) (ap not (rw (q, r) at (and .ensures)))
+    meant-if _ (derive-error .ensures) (ap not (and .ensures))
 
 pub check-opaque-derive-spec : {M : Type 1} → statement M
 check-opaque-derive-spec =

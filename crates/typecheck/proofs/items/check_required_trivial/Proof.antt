@@ -1,6 +1,5 @@
 -- `typecheck::items::check_required_trivial` meets its contract: the test is that of the definition. Assumes nothing.
 use borrow.Author.Needs.{needs}
-use Prim.Native.Nat.{_<_}
 use Rattle.errors.specs.Sink.{meant-if}
 use Rattle.typecheck.proofs.items.check_required_trivial.Statement.{statement}
 use Rattle.typecheck.proofs.items.check_required_trivial.Tie as tie
@@ -21,14 +20,13 @@ same-length : tie.Need-same-length
 same-length c = search needs
 
 returns : tie.Need-returns
-returns c = λ l.
+returns c =
     let item-name = c .before .before .before .before .before .before .item-name in
     let has = c .before .before .before .before .has in
     let count-of = c .before .before .before .count-of in
     let item-error = c .before .before .item-error in
     let name = item-name .ensures in
-    let named : item-name .result < 256 = rw name l in
-    meant-if _ (rw (count-of .ensures named, name) at (item-error .ensures)) (rw name at (has .ensures))
+    meant-if _ (rw (count-of .ensures, name) at (item-error .ensures)) (rw name at (has .ensures))
 
 pub check-required-trivial-spec : {M : Type 1} → statement M
 check-required-trivial-spec =

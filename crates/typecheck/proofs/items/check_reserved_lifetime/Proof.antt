@@ -1,7 +1,5 @@
 -- `typecheck::items::check_reserved_lifetime` meets its contract: the test is that of the definition. Assumes nothing.
 use borrow.Author.Needs.{needs}
-use Rattle.errors.specs.Sink.{meant-if}
-use Rattle.rules.specs.Check.{check-reserved-lifetime}
 use Rattle.typecheck.proofs.items.check_reserved_lifetime.Statement.{statement}
 use Rattle.typecheck.proofs.items.check_reserved_lifetime.Tie as tie
 
@@ -12,10 +10,9 @@ same-length : tie.Need-same-length
 same-length c = search needs
 
 returns : tie.Need-returns
-unfolding check-reserved-lifetime
-returns c = λ s t q.
+returns c =
     let lifetime-error = c .before .before .lifetime-error in
-    meant-if _ (lifetime-error .ensures) (rw q)
+    lifetime-error .ensures
 
 pub check-reserved-lifetime-spec : {M : Type 1} → statement M
 check-reserved-lifetime-spec = tie.close (tie.spec lifetime-error-requires same-length returns)

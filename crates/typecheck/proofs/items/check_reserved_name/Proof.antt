@@ -17,7 +17,7 @@ same-length c = search needs
 
 returns : tie.Need-returns
 unfolding check-reserved-name isReserved
-returns c = λ t.
+returns c =
     let item-name = c .before .before .before .item-name in
     let item-error = c .before .before .item-error in
     meant-if _ (item-error .ensures) (rw (item-name .ensures))

@@ -1,7 +1,6 @@
 -- `typecheck::items::check_struct_derive` meets its contract: its parts report one after the other. Assumes nothing.
 use borrow.Author.Needs.{needs}
-use Rattle.errors.specs.Sink.{also-if, meant-if}
-use Rattle.rules.specs.Check.{check-struct-derive}
+use Rattle.errors.specs.Sink.{also, meant-if}
 use Rattle.typecheck.proofs.items.check_struct_derive.Statement.{statement}
 use Rattle.typecheck.proofs.items.check_struct_derive.Tie as tie
 
@@ -18,12 +17,11 @@ same-length : tie.Need-same-length
 same-length c = search needs
 
 returns : tie.Need-returns
-unfolding check-struct-derive
-returns c = λ s t q.
+returns c =
     let is-bit = c .before .before .before .before .before .before .before .before .is-bit in
     let derive-error = c .before .before .before .before .before .before .derive-error in
     let derive-error2 = c .before .before .derive-error2 in
-    also-if _ (meant-if _ (derive-error .ensures) (rw q at (is-bit .ensures))) (derive-error2 .ensures) (rw q)
+    also (meant-if _ (derive-error .ensures) (is-bit .ensures)) (derive-error2 .ensures)
 
 pub check-struct-derive-spec : {M : Type 1} → statement M
 check-struct-derive-spec =

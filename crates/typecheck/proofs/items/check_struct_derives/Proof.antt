@@ -5,7 +5,7 @@ use mathlib.Core.Path.{_≡_, refl, _∙_}
 use native.Mathlib.Omega.{arith}
 use lib.ListN.{length}
 use Rattle.rules.specs.Base.{over}
-use Rattle.rules.specs.Types.{Types}
+use Rattle.rules.specs.Types.{typesOf}
 use Rattle.rules.specs.View.{derive, deriveCount}
 use Rattle.errors.specs.Sink.{Reported, start, turn, whole}
 use Rattle.rules.specs.Check.{check-struct-derive}
@@ -14,7 +14,7 @@ use Rattle.typecheck.proofs.items.check_struct_derives.Tie as tie
 
 abbrev Inv-loop : tie.InvT-loop
 Inv-loop s out₀ i at n e₀ j₀ out e j = (length out ≡ length out₀) × (j ≤ n) ×
-    ((t : Types) → Reported out₀ e₀ (over j (check-struct-derive s t i)) e out)
+    Reported out₀ e₀ (over j (check-struct-derive s (typesOf s) i)) e out
 
 abbrev μ-loop : tie.MeasureT-loop
 μ-loop s out₀ i at n e₀ j₀ out e j = n - j
@@ -29,7 +29,7 @@ pair-at-requires : tie.Need-pair-at-requires Inv-loop μ-loop
 pair-at-requires c κs = search needs
 
 loop-holds : tie.Need-loop-holds Inv-loop μ-loop
-loop-holds c = (refl, omega arith, λ t. start _ _ _)
+loop-holds c = (refl, omega arith, start _ _ _)
 
 add-j : tie.Need-add-j Inv-loop μ-loop
 add-j c = omega arith
@@ -44,9 +44,8 @@ loop-less : tie.Need-loop-less Inv-loop μ-loop
 loop-less c = omega arith
 
 loop-again : tie.Need-loop-again Inv-loop μ-loop
-unfolding derive
+unfolding check-struct-derive derive
 loop-again c =
-    let args = c .before .before .before .before .before .before .before .before .before .before .before .args in
     let derives-place = c .before .before .before .before .before .before .before .before .derives-place in
     let loop = c .before .before .before .before .before .before .loop in
     let entry = c .before .before .before .entry in
@@ -54,8 +53,7 @@ loop-again c =
     let at = loop in (
       check-struct-derive .kept .1 .0 ∙ at .inv .0,
       omega arith,
-      λ t. turn _ _ (at .inv .2 t)
-          (check-struct-derive .ensures (args .s .now) t (rw (derives-place .ensures) at (entry .ensures))),
+      turn _ _ (at .inv .2) (rw (rw (derives-place .ensures) at (entry .ensures)) at (check-struct-derive .ensures)),
     )
 
 same-length : tie.Need-same-length Inv-loop μ-loop
@@ -65,11 +63,11 @@ same-length c =
 
 returns : tie.Need-returns Inv-loop μ-loop
 unfolding deriveCount
-returns c = λ t.
+returns c =
     let derives-place = c .before .before .before .derives-place in
     let pair-at = c .before .before .pair-at in
     let loop = c .before .loop in
-    let e : loop .j ≡ pair-at .result = omega arith in whole _ (loop .inv .2 t) (e ∙ (rw (derives-place .ensures) at (pair-at .ensures)))
+    let e : loop .j ≡ pair-at .result = omega arith in whole _ (loop .inv .2) (e ∙ (rw (derives-place .ensures) at (pair-at .ensures)))
 
 pub check-struct-derives-spec : {M : Type 1} → statement M
 check-struct-derives-spec =

@@ -2,7 +2,6 @@
 use borrow.Author.Needs.{needs}
 use Rattle.rules.specs.Diagnostics.{when}
 use Rattle.errors.specs.Sink.{taken, left, when-taken, when-left, none}
-use Rattle.rules.specs.Check.{check-struct-field}
 use Rattle.typecheck.proofs.items.check_struct_field.Statement.{statement}
 use Rattle.typecheck.proofs.items.check_struct_field.Tie as tie
 
@@ -16,12 +15,12 @@ same-length : tie.Need-same-length
 same-length c = search needs
 
 returns : tie.Need-returns
-unfolding check-struct-field when
-returns c = λ t u q l.
+unfolding when
+returns c =
     let is = c .before .before .before .before .before .is in
     let if1 = c .before .before .before .before .if1 in
     let field-error = c .before .before .field-error in
-    taken _ _ (if1 .taken) (field-error .ensures) (rw q at (is .ensures))
+    taken _ _ (if1 .taken) (field-error .ensures) (is .ensures)
 
 is-unsized-requires : tie.Need-is-unsized-requires
 is-unsized-requires c κs = search needs
@@ -36,8 +35,8 @@ same-length-2 : tie.Need-same-length-2
 same-length-2 c = search needs
 
 returns-2 : tie.Need-returns-2
-unfolding check-struct-field when
-returns-2 c = λ t u q l.
+unfolding when
+returns-2 c =
     let is = c .before .before .before .before .before .before .before .before .is in
     let if1 = c .before .before .before .before .before .before .before .if1 in
     let is-unsized = c .before .before .before .before .before .before .is-unsized in
@@ -45,16 +44,16 @@ returns-2 c = λ t u q l.
     let describe = c .before .before .before .describe in
     let field-error2 = c .before .before .field-error2 in
     left _ _ (if1 .left)
-    (when-taken _ (if2 .taken) (rw (describe .ensures t, q) at (field-error2 .ensures)) (rw q at (is-unsized .ensures _ _ u l)))
-    (rw q at (is .ensures))
+    (when-taken _ (if2 .taken) (rw (describe .ensures) at (field-error2 .ensures)) (is-unsized .ensures))
+    (is .ensures)
 
 returns-3 : tie.Need-returns-3
-unfolding check-struct-field when
-returns-3 c = λ t u q l.
+unfolding when
+returns-3 c =
     let is = c .before .before .before .is in
     let if1 = c .before .before .if1 in
     let is-unsized = c .before .is-unsized in
-    left _ _ (if1 .left) (when-left _ (c .if2 .left) (none _ _) (rw q at (is-unsized .ensures _ _ u l))) (rw q at (is .ensures))
+    left _ _ (if1 .left) (when-left _ (c .if2 .left) (none _ _) (is-unsized .ensures)) (is .ensures)
 
 pub check-struct-field-spec : {M : Type 1} → statement M
 check-struct-field-spec =

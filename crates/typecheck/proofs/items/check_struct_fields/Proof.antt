@@ -5,19 +5,15 @@ use mathlib.Core.Path.{_≡_, refl, _∙_}
 use native.Mathlib.Omega.{arith}
 use lib.ListN.{length}
 use Rattle.rules.specs.Base.{over}
-use Rattle.rules.specs.Types.{Types}
 use Rattle.rules.specs.View.{field, fieldCount}
 use Rattle.errors.specs.Sink.{Reported, start, turn, whole}
-use Rattle.rules.specs.Check.{check-struct-field}
-use Rattle.typecheck_rows.specs.Tables.{holding, UnsizedRows}
-use Rattle.typecheck.specs.Tables.{FieldsBelow}
-use Rattle.typecheck.proofs.Below.{field-below}
+use Rattle.typecheck.specs.Tests.{structField}
 use Rattle.typecheck.proofs.items.check_struct_fields.Statement.{statement}
 use Rattle.typecheck.proofs.items.check_struct_fields.Tie as tie
 
 abbrev Inv-loop : tie.InvT-loop
 Inv-loop s sets sizes out₀ i at n e₀ j₀ out e j = (length out ≡ length out₀) × (j ≤ n) ×
-    ((t : Types) → UnsizedRows s (holding sets t) sizes → FieldsBelow s i → Reported out₀ e₀ (over j (check-struct-field s (holding sets t) i)) e out)
+    Reported out₀ e₀ (over j (λ k. structField s sets sizes i k (field s i k))) e out
 
 abbrev μ-loop : tie.MeasureT-loop
 μ-loop s sets sizes out₀ i at n e₀ j₀ out e j = n - j
@@ -32,7 +28,7 @@ pair-at-requires : tie.Need-pair-at-requires Inv-loop μ-loop
 pair-at-requires c κs = search needs
 
 loop-holds : tie.Need-loop-holds Inv-loop μ-loop
-loop-holds c = (refl, omega arith, λ t u b. start _ _ _)
+loop-holds c = (refl, omega arith, start _ _ _)
 
 add-j : tie.Need-add-j Inv-loop μ-loop
 add-j c = omega arith
@@ -47,21 +43,16 @@ loop-less : tie.Need-loop-less Inv-loop μ-loop
 loop-less c = omega arith
 
 loop-again : tie.Need-loop-again Inv-loop μ-loop
-unfolding field fieldCount
+unfolding field
 loop-again c =
-    let args = c .before .before .before .before .before .before .before .before .before .before .before .args in
     let rest = c .before .before .before .before .before .before .before .before .rest in
-    let pair-at = c .before .before .before .before .before .before .before .pair-at in
     let loop = c .before .before .before .before .before .before .loop in
-    let loop-test = c .before .before .before .before .before .loop-test in
     let entry = c .before .before .before .entry in
     let check-struct-field = c .before .before .check-struct-field in
     let at = loop in (
       check-struct-field .kept .1 .1 .1 .1 .0 ∙ at .inv .0,
       omega arith,
-      λ t u b. turn _ _ (at .inv .2 t u b)
-          (check-struct-field .ensures t u (rw (rest .ensures) at (entry .ensures))
-          (field-below (args .s .now) _ _ b (rw (rest .ensures) at (entry .ensures)) (rw (pair-at .ensures, rest .ensures) at (loop-test .taken)))),
+      turn _ _ (at .inv .2) (rw (rw (rest .ensures) at (entry .ensures)) at (check-struct-field .ensures)),
     )
 
 same-length : tie.Need-same-length Inv-loop μ-loop
@@ -71,11 +62,11 @@ same-length c =
 
 returns : tie.Need-returns Inv-loop μ-loop
 unfolding fieldCount
-returns c = λ t u b.
+returns c =
     let rest = c .before .before .before .rest in
     let pair-at = c .before .before .pair-at in
     let loop = c .before .loop in
-    let e : loop .j ≡ pair-at .result = omega arith in whole _ (loop .inv .2 t u b) (e ∙ (rw (rest .ensures) at (pair-at .ensures)))
+    let e : loop .j ≡ pair-at .result = omega arith in whole _ (loop .inv .2) (e ∙ (rw (rest .ensures) at (pair-at .ensures)))
 
 pub check-struct-fields-spec : {M : Type 1} → statement M
 check-struct-fields-spec =

@@ -1,9 +1,6 @@
--- `typecheck::items::check_untrusted` meets its contract: inside the table the item does not depend on the value past its end. Assumes nothing.
+-- `typecheck::items::check_untrusted` meets its contract: the test is that of the definition. Assumes nothing.
 use borrow.Author.Needs.{needs}
-use Prim.Native.Nat.{_<_}
-use mathlib.Core.Path.{_∙_}
 use Rattle.errors.specs.Sink.{meant-if}
-use Rattle.typecheck.proofs.Below.{getD-any}
 use Rattle.typecheck.proofs.items.check_untrusted.Statement.{statement}
 use Rattle.typecheck.proofs.items.check_untrusted.Tie as tie
 
@@ -29,8 +26,7 @@ same-length : tie.Need-same-length
 same-length c = search needs
 
 returns : tie.Need-returns
-returns c = λ l u.
-    let args = c .before .before .before .before .before .before .before .before .before .before .before .args in
+returns c =
     let item-name = c .before .before .before .before .before .before .before .before .item-name in
     let has = c .before .before .before .before .before .before .before .has in
     let has2 = c .before .before .before .before .before .before .has2 in
@@ -38,9 +34,7 @@ returns c = λ l u.
     let item-of = c .before .before .before .item-of in
     let item-error = c .before .before .item-error in
     let name = item-name .ensures in
-    let named : item-name .result < 256 = rw name l in
-    let item = item-of .ensures named ∙ getD-any (args .untrusted .now) (item-name .result) 0 255 (rw u named) in
-    meant-if _ (rw (item, name) at (item-error .ensures)) (rw (has .ensures, has2 .ensures, name) at (and .ensures))
+    meant-if _ (rw (item-of .ensures, name) at (item-error .ensures)) (rw (has .ensures, has2 .ensures, name) at (and .ensures))
 
 pub check-untrusted-spec : {M : Type 1} → statement M
 check-untrusted-spec =

@@ -5,7 +5,7 @@ use mathlib.Core.Bool.{not}
 use Rattle.rules.specs.View.{args}
 use Rattle.errors.specs.Sink.{taken, left, meant-if, none}
 use Rattle.rules.specs.Check.{check-mut-return-restriction}
-use Rattle.typecheck.specs.Tables.{withLastType}
+use Rattle.laws.proofs.Accepted.Items.{item-of}
 use Rattle.typecheck.proofs.Visitor.{any-args}
 use Rattle.typecheck.proofs.mut_return.check_mut_return_restriction.Statement.{statement}
 use Rattle.typecheck.proofs.mut_return.check_mut_return_restriction.Tie as tie
@@ -15,7 +15,7 @@ function-unsafe-requires c κs = search needs
 
 returns : tie.Need-returns
 unfolding check-mut-return-restriction
-returns c = λ t m b u n.
+returns c =
     let function-unsafe = c .before .function-unsafe in
     taken _ _ (c .if1 .taken) (none _ _) (function-unsafe .ensures)
 
@@ -24,26 +24,26 @@ returns-mut-requires c κs = search needs
 
 returns-2 : tie.Need-returns-2
 unfolding check-mut-return-restriction
-returns-2 c = λ t m b u n.
+returns-2 c =
     let function-unsafe = c .before .before .before .function-unsafe in
     let if1 = c .before .before .if1 in
     let returns-mut = c .before .returns-mut in
-    left _ _ (if1 .left) (taken _ _ (c .if2 .taken) (none _ _) (ap not (returns-mut .ensures (withLastType _ t)))) (function-unsafe .ensures)
+    left _ _ (if1 .left) (taken _ _ (c .if2 .taken) (none _ _) (ap not (returns-mut .ensures))) (function-unsafe .ensures)
 
 may-receiver-lend-requires : tie.Need-may-receiver-lend-requires
-may-receiver-lend-requires c κs = search needs
+may-receiver-lend-requires c κs = c .before .before .before .before .before .before .pre .visitor .last-type
 
 returns-3 : tie.Need-returns-3
 unfolding check-mut-return-restriction
-returns-3 c = λ t m b u n.
+returns-3 c =
     let function-unsafe = c .before .before .before .before .before .function-unsafe in
     let if1 = c .before .before .before .before .if1 in
     let returns-mut = c .before .before .before .returns-mut in
     let if2 = c .before .before .if2 in
     let may-receiver-lend = c .before .may-receiver-lend in
     left _ _ (if1 .left)
-    (left _ _ (if2 .left) (taken _ _ (c .if3 .taken) (none _ _) (may-receiver-lend .ensures t u n))
-    (ap not (returns-mut .ensures (withLastType _ t))))
+    (left _ _ (if2 .left) (taken _ _ (c .if3 .taken) (none _ _) (may-receiver-lend .ensures))
+    (ap not (returns-mut .ensures)))
     (function-unsafe .ensures)
 
 return-place-requires : tie.Need-return-place-requires
@@ -60,7 +60,9 @@ same-length c = search needs
 
 returns-4 : tie.Need-returns-4
 unfolding check-mut-return-restriction args
-returns-4 c = λ t m b u n.
+returns-4 c =
+    let given = c .before .before .before .before .before .before .before .before .before .before .before .before .before .before .pre in
+    let args-below = item-of _ (given .visitor .accepted) _ (given .below) .as-function (given .function) .arg-below in
     let function-unsafe = c .before .before .before .before .before .before .before .before .before .before .before .function-unsafe in
     let if1 = c .before .before .before .before .before .before .before .before .before .before .if1 in
     let returns-mut = c .before .before .before .before .before .before .before .before .before .returns-mut in
@@ -73,9 +75,9 @@ returns-4 c = λ t m b u n.
     left _ _ (if1 .left)
     (left _ _ (if2 .left)
     (left _ _ (if3 .left)
-    (meant-if _ (item-error .ensures) (ap not ((rw (return-place .ensures) at (any-marked-arg .ensures)) ∙ any-args _ (withLastType _ t) _ _ m b)))
-    (may-receiver-lend .ensures t u n))
-    (ap not (returns-mut .ensures (withLastType _ t))))
+    (meant-if _ (item-error .ensures) (ap not ((rw (return-place .ensures) at (any-marked-arg .ensures)) ∙ any-args _ _ _ _ (given .muts-right) args-below)))
+    (may-receiver-lend .ensures))
+    (ap not (returns-mut .ensures)))
     (function-unsafe .ensures)
 
 pub check-mut-return-restriction-spec : {M : Type 1} → statement M

@@ -1,11 +1,10 @@
 -- `typecheck::mut_return::is_lifetime_mut` meets its contract: each test that the code makes is that of the definition. Assumes nothing.
 use borrow.Author.Needs.{needs}
 use mathlib.Core.Path.{_∙_, sym}
-use borrow.Author.Tests.{not-true, not-false, eqb-true}
-use Rattle.rules.specs.View.{is}
+use borrow.Author.Tests.{not-true, not-false}
 use Rattle.rules.specs.Check.{is-lifetime-mut}
 use Rattle.typecheck_rows.proofs.Branches.{if-taken, if-left}
-use Rattle.typecheck.proofs.Below.{and-not, and-so}
+use Rattle.typecheck.proofs.Conjunction.{and-not, and-so}
 use Rattle.typecheck.proofs.mut_return.is_lifetime_mut.Statement.{statement}
 use Rattle.typecheck.proofs.mut_return.is_lifetime_mut.Tie as tie
 
@@ -26,7 +25,7 @@ flag1-requires c κs = search needs
 
 returns : tie.Need-returns
 unfolding is-lifetime-mut
-returns c = λ t u n.
+returns c =
     let is = c .before .before .before .before .before .is in
     let is2 = c .before .before .before .before .is2 in
     let or = c .before .before .before .or in
@@ -39,7 +38,7 @@ is-requires-3 c κs = search needs
 
 returns-2 : tie.Need-returns-2
 unfolding is-lifetime-mut
-returns-2 c = λ t u n.
+returns-2 c =
     let is = c .before .before .before .before .before .is in
     let is2 = c .before .before .before .before .is2 in
     let or = c .before .before .before .or in
@@ -60,8 +59,8 @@ and-requires : tie.Need-and-requires
 and-requires c κs = search needs
 
 returns-3 : tie.Need-returns-3
-unfolding is-lifetime-mut is
-returns-3 c = λ t u n.
+unfolding is-lifetime-mut
+returns-3 c =
     let is = c .before .before .before .before .before .before .before .before .before .is in
     let is2 = c .before .before .before .before .before .before .before .before .is2 in
     let or = c .before .before .before .before .before .before .before .or in
@@ -72,10 +71,8 @@ returns-3 c = λ t u n.
     let is-atom = c .before .before .is-atom in
     let may-have-lifetimes = c .before .may-have-lifetimes in
     let plain = sym (is3 .ensures) ∙ not-false _ (if2 .left) in
-    let named = n (eqb-true _ _ plain) in
     if-left _ _ (if1 .left)
-    (and-so _ _ _ plain (rw (is-atom .ensures, may-have-lifetimes .ensures t u (rw (row-name .ensures) named), row-name .ensures) at
-    (c .and .ensures)))
+    (and-so _ _ _ plain (rw (is-atom .ensures, may-have-lifetimes .ensures, row-name .ensures) at (c .and .ensures)))
     (rw (is .ensures, is2 .ensures) at (or .ensures))
 
 pub is-lifetime-mut-spec : {M : Type 1} → statement M

@@ -9,18 +9,18 @@ is-lifetime-mut-requires : tie.Need-is-lifetime-mut-requires
 is-lifetime-mut-requires c κs = search needs
 
 returns : tie.Need-returns
-returns c = λ t u n.
+returns c =
     let is-lifetime-mut = c .before .is-lifetime-mut in
-    if-taken _ _ (c .if1 .taken) refl (is-lifetime-mut .ensures t u n)
+    if-taken _ _ (c .if1 .taken) refl (is-lifetime-mut .ensures)
 
 any-marked-shown-requires : tie.Need-any-marked-shown-requires
 any-marked-shown-requires c κs = search needs
 
 returns-2 : tie.Need-returns-2
-returns-2 c = λ t u n.
+returns-2 c =
     let is-lifetime-mut = c .before .before .is-lifetime-mut in
     let if1 = c .before .if1 in
-    if-left _ _ (if1 .left) (c .any-marked-shown .ensures) (is-lifetime-mut .ensures t u n)
+    if-left _ _ (if1 .left) (c .any-marked-shown .ensures) (is-lifetime-mut .ensures)
 
 pub is-mut-row-spec : {M : Type 1} → statement M
 is-mut-row-spec =

@@ -5,12 +5,10 @@ use mathlib.Core.Path.{_≡_, ap, _∙_}
 use native.Mathlib.Omega.{arith}
 use lib.ListN.{length, length-replicate, length-set}
 use Rattle.rules.specs.Diagnostics.{bit}
-use Rattle.rules.specs.Types.{Types}
+use Rattle.rules.specs.Types.{typesOf}
 use Rattle.rules.specs.Check.{find-lifetime-mut}
 use Rattle.laws.proofs.Accepted.Sheet.{sheet-of}
-use Rattle.laws.proofs.Accepted.Rows.{row-of}
 use Rattle.typecheck_rows.proofs.Upward.{Right, right-start, right-next}
-use Rattle.typecheck.specs.Tables.{withLastType}
 use Rattle.typecheck.specs.Tests.{mutRow}
 use Rattle.typecheck.proofs.Visitor.{mut-up, mut-rows}
 use Rattle.typecheck.proofs.mut_return.lifetime_mut_rows.Statement.{statement}
@@ -18,7 +16,7 @@ use Rattle.typecheck.proofs.mut_return.lifetime_mut_rows.Tie as tie
 
 abbrev Inv-loop : tie.InvT-loop
 Inv-loop s last-type n table₀ r₀ table r = (r ≤ n) × (n ≤ 1024) × (length table ≡ 1024) ×
-    ((t : Types) → length last-type ≡ 256 → Right (find-lifetime-mut s (withLastType last-type t)) table r)
+    Right (find-lifetime-mut s (typesOf s)) table r
 
 abbrev μ-loop : tie.MeasureT-loop
 μ-loop s last-type n table₀ r₀ table r = n - r
@@ -28,14 +26,14 @@ rows-requires c κs = search needs
 
 loop-holds : tie.Need-loop-holds Inv-loop μ-loop
 loop-holds c =
-    let pre = c .before .before .pre in
-    (omega arith, rw (c .rows .ensures) (sheet-of _ pre .few-rows), length-replicate {A = ℕ} 1024 0, λ t u. right-start _ _)
+    let given = c .before .before .pre in
+    (omega arith, rw (c .rows .ensures) (sheet-of _ (given .accepted) .few-rows), length-replicate {A = ℕ} 1024 0, right-start _ _)
 
 add-r : tie.Need-add-r Inv-loop μ-loop
 add-r c = search needs
 
 is-mut-row-requires : tie.Need-is-mut-row-requires Inv-loop μ-loop
-is-mut-row-requires c κs = search needs
+is-mut-row-requires c κs = c .before .before .before .before .before .pre .last-type
 
 mark-requires : tie.Need-mark-requires Inv-loop μ-loop
 mark-requires c κs = search needs
@@ -51,7 +49,7 @@ loop-less c = search needs
 
 loop-again : tie.Need-loop-again Inv-loop μ-loop
 loop-again c =
-    let pre = c .before .before .before .before .before .before .before .pre in
+    let given = c .before .before .before .before .before .before .before .pre in
     let rows = c .before .before .before .before .before .rows in
     let loop = c .before .before .before .before .loop in
     let loop-test = c .before .before .before .loop-test in
@@ -61,15 +59,15 @@ loop-again c =
       omega arith,
       at .inv .1,
       simp length-set (at .inv .2),
-      λ t u. right-next _ (mutRow _ (withLastType _ t)) _ _ (mut-up _ pre _ _ below) (omega arith) (omega arith)
-          (at .inv .3 t u) (c .mark .ensures ∙ ap bit (is-mut-row .ensures t u (row-of _ pre _ below .named))),
+      right-next _ (mutRow _ (typesOf _)) _ _ (mut-up _ (given .accepted) _ _ below) (omega arith) (omega arith)
+          (at .inv .3) (c .mark .ensures ∙ ap bit (is-mut-row .ensures)),
     )
 
 returns : tie.Need-returns Inv-loop μ-loop
-returns c = λ t u.
+returns c =
     let rows = c .before .before .rows in
     let loop = c .before .loop in
-    let e : loop .r ≡ rows .result = omega arith in mut-rows _ (withLastType _ t) _ (e ∙ rows .ensures) (loop .inv .3 t u)
+    let e : loop .r ≡ rows .result = omega arith in mut-rows _ (typesOf _) _ (e ∙ rows .ensures) (loop .inv .3)
 
 pub lifetime-mut-rows-spec : {M : Type 1} → statement M
 lifetime-mut-rows-spec =

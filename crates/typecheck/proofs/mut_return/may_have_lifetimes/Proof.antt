@@ -2,7 +2,7 @@
 use borrow.Author.Needs.{needs}
 use mathlib.Core.Path.{_∙_}
 use Rattle.rules.specs.Check.{may-have-lifetimes}
-use Rattle.typecheck.proofs.Below.{getD-any}
+use Rattle.typecheck.proofs.ByName.{last-type}
 use Rattle.typecheck.proofs.mut_return.may_have_lifetimes.Statement.{statement}
 use Rattle.typecheck.proofs.mut_return.may_have_lifetimes.Tie as tie
 
@@ -17,12 +17,12 @@ or-requires c κs = search needs
 
 returns : tie.Need-returns
 unfolding may-have-lifetimes
-returns c = λ t u l.
-    let args = c .before .before .before .before .args in
+returns c =
+    let start = c .before .before .before .before in
     let item-of = c .before .before .item-of in
     let lifetime-count = c .before .lifetime-count in
-    let e = item-of .ensures l ∙ getD-any (args .last-type .now) (args .n) 0 255 (rw u l) in
-    rw (lifetime-count .ensures, e) at (c .or .ensures)
+    let item = item-of .ensures ∙ last-type (start .args .s .now) _ (start .pre) in
+    rw (lifetime-count .ensures, item) at (c .or .ensures)
 
 pub may-have-lifetimes-spec : {M : Type 1} → statement M
 may-have-lifetimes-spec =

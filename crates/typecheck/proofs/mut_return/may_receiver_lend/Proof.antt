@@ -2,7 +2,7 @@
 use borrow.Author.Needs.{needs}
 use mathlib.Core.Path.{_∙_, sym}
 use borrow.Author.Tests.{not-true, not-false}
-use Rattle.typecheck.proofs.Below.{both-not, both-so}
+use Rattle.typecheck.proofs.Conjunction.{both-not, both-so}
 use Rattle.typecheck.proofs.mut_return.may_receiver_lend.Statement.{statement}
 use Rattle.typecheck.proofs.mut_return.may_receiver_lend.Tie as tie
 
@@ -10,7 +10,7 @@ is-method-requires : tie.Need-is-method-requires
 is-method-requires c κs = search needs
 
 returns : tie.Need-returns
-returns c = λ t u n.
+returns c =
     let is-method = c .before .is-method in
     both-not _ _ (sym (is-method .ensures) ∙ not-true _ (c .if1 .taken))
 
@@ -27,7 +27,7 @@ or-requires : tie.Need-or-requires
 or-requires c κs = search needs
 
 returns-2 : tie.Need-returns-2
-returns-2 c = λ t u n.
+returns-2 c =
     let is-method = c .before .before .before .before .before .is-method in
     let if1 = c .before .before .before .before .if1 in
     let receiver-mutable = c .before .before .before .receiver-mutable in
@@ -35,7 +35,7 @@ returns-2 c = λ t u n.
     let may-have-lifetimes = c .before .may-have-lifetimes in
     let method = sym (is-method .ensures) ∙ not-false _ (if1 .left) in
     both-so _ _ method
-    (rw (receiver-mutable .ensures, may-have-lifetimes .ensures t u (rw (self-type .ensures) (n method)), self-type .ensures) at (c .or .ensures))
+    (rw (receiver-mutable .ensures, may-have-lifetimes .ensures, self-type .ensures) at (c .or .ensures))
 
 pub may-receiver-lend-spec : {M : Type 1} → statement M
 may-receiver-lend-spec =

@@ -33,7 +33,7 @@ and-requires-2 c κs = search needs
 
 returns : tie.Need-returns
 unfolding returns-mut
-returns c = λ t.
+returns c =
     let return-row = c .before .before .before .before .before .before .before .before .return-row in
     let is = c .before .before .before .before .before .before .before .is in
     let is2 = c .before .before .before .before .before .before .is2 in

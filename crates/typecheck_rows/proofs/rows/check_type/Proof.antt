@@ -2,11 +2,12 @@
 use borrow.Author.Needs.{needs}
 use mathlib.Core.Path.{refl, sym, _∙_}
 use native.Mathlib.Nat.{lt-trans}
+use Rattle.rules.specs.Types.{typesOf}
 use Rattle.rules.specs.Check.{type-checks}
 use Rattle.errors.specs.Sink.{meant, none}
 use Rattle.laws.proofs.Accepted.Rows.{row-of}
-use Rattle.typecheck_rows.specs.Tables.{holding}
 use Rattle.typecheck_rows.proofs.ByKind.{by-kind, nothing}
+use Rattle.typecheck_rows.proofs.UnsizedTable.{slice-ref, array-of}
 use Rattle.typecheck_rows.proofs.rows.check_type.Statement.{statement}
 use Rattle.typecheck_rows.proofs.rows.check_type.Tie as tie
 
@@ -54,142 +55,154 @@ same-length c = search needs
 
 returns : tie.Need-returns
 unfolding type-checks
-returns c = λ t u acc l.
+returns c =
+    let given = c .before .before .before .before .before .before .before .before .pre in
     let kind = c .before .before .before .before .before .kind in
     let match = c .before .before .before .before .match in
     let check-type-ident = c .before .before .check-type-ident in
-    meant (check-type-ident .ensures t) (by-kind _ (holding _ t) _ (sym (match .keys1) ∙ kind .ensures))
+    meant (check-type-ident .ensures) (by-kind _ _ (sym (match .keys1) ∙ kind .ensures) (given .tables .sets-held))
 
 same-length-2 : tie.Need-same-length-2
 same-length-2 c = search needs
 
 returns-2 : tie.Need-returns-2
 unfolding type-checks
-returns-2 c = λ t u acc l.
+returns-2 c =
+    let given = c .before .before .before .before .before .before .before .before .pre in
     let kind = c .before .before .before .before .before .kind in
     let match = c .before .before .before .before .match in
     let check-type-box = c .before .before .check-type-box in
-    meant (check-type-box .ensures t) (by-kind _ (holding _ t) _ (sym (match .keys2) ∙ kind .ensures))
+    meant (check-type-box .ensures) (by-kind _ _ (sym (match .keys2) ∙ kind .ensures) (given .tables .sets-held))
 
 same-length-3 : tie.Need-same-length-3
 same-length-3 c = search needs
 
 returns-3 : tie.Need-returns-3
 unfolding type-checks
-returns-3 c = λ t u acc l.
+returns-3 c =
+    let given = c .before .before .before .before .before .before .before .before .pre in
     let kind = c .before .before .before .before .before .kind in
     let match = c .before .before .before .before .match in
     let check-type-rust-vec = c .before .before .check-type-rust-vec in
-    meant (check-type-rust-vec .ensures t) (by-kind _ (holding _ t) _ (sym (match .keys3) ∙ kind .ensures))
+    meant (check-type-rust-vec .ensures) (by-kind _ _ (sym (match .keys3) ∙ kind .ensures) (given .tables .sets-held))
 
 same-length-4 : tie.Need-same-length-4
 same-length-4 c = search needs
 
 returns-4 : tie.Need-returns-4
 unfolding type-checks
-returns-4 c = λ t u acc l.
+returns-4 c =
+    let given = c .before .before .before .before .before .before .before .before .pre in
     let kind = c .before .before .before .before .before .kind in
     let match = c .before .before .before .before .match in
     let check-type-unique-ptr = c .before .before .check-type-unique-ptr in
-    meant (check-type-unique-ptr .ensures t) (by-kind _ (holding _ t) _ (sym (match .keys4) ∙ kind .ensures))
+    meant (check-type-unique-ptr .ensures) (by-kind _ _ (sym (match .keys4) ∙ kind .ensures) (given .tables .sets-held))
 
 same-length-5 : tie.Need-same-length-5
 same-length-5 c = search needs
 
 returns-5 : tie.Need-returns-5
 unfolding type-checks
-returns-5 c = λ t u acc l.
+returns-5 c =
+    let given = c .before .before .before .before .before .before .before .before .pre in
     let kind = c .before .before .before .before .before .kind in
     let match = c .before .before .before .before .match in
     let check-type-shared-ptr = c .before .before .check-type-shared-ptr in
-    meant (check-type-shared-ptr .ensures t) (by-kind _ (holding _ t) _ (sym (match .keys5) ∙ kind .ensures))
+    meant (check-type-shared-ptr .ensures) (by-kind _ _ (sym (match .keys5) ∙ kind .ensures) (given .tables .sets-held))
 
 same-length-6 : tie.Need-same-length-6
 same-length-6 c = search needs
 
 returns-6 : tie.Need-returns-6
 unfolding type-checks
-returns-6 c = λ t u acc l.
+returns-6 c =
+    let given = c .before .before .before .before .before .before .before .before .pre in
     let kind = c .before .before .before .before .before .kind in
     let match = c .before .before .before .before .match in
     let check-type-weak-ptr = c .before .before .check-type-weak-ptr in
-    meant (check-type-weak-ptr .ensures t) (by-kind _ (holding _ t) _ (sym (match .keys6) ∙ kind .ensures))
+    meant (check-type-weak-ptr .ensures) (by-kind _ _ (sym (match .keys6) ∙ kind .ensures) (given .tables .sets-held))
 
 same-length-7 : tie.Need-same-length-7
 same-length-7 c = search needs
 
 returns-7 : tie.Need-returns-7
 unfolding type-checks
-returns-7 c = λ t u acc l.
+returns-7 c =
+    let given = c .before .before .before .before .before .before .before .before .pre in
     let kind = c .before .before .before .before .before .kind in
     let match = c .before .before .before .before .match in
     let check-type-cxx-vector = c .before .before .check-type-cxx-vector in
-    meant (check-type-cxx-vector .ensures t) (by-kind _ (holding _ t) _ (sym (match .keys7) ∙ kind .ensures))
+    meant (check-type-cxx-vector .ensures) (by-kind _ _ (sym (match .keys7) ∙ kind .ensures) (given .tables .sets-held))
 
 same-length-8 : tie.Need-same-length-8
 same-length-8 c = search needs
 
 returns-8 : tie.Need-returns-8
 unfolding type-checks
-returns-8 c = λ t u acc l.
+returns-8 c =
+    let given = c .before .before .before .before .before .before .before .before .pre in
     let kind = c .before .before .before .before .before .kind in
     let match = c .before .before .before .before .match in
     let check-type-ref = c .before .before .check-type-ref in
-    meant (check-type-ref .ensures t) (by-kind _ (holding _ t) _ (sym (match .keys8) ∙ kind .ensures))
+    meant (check-type-ref .ensures) (by-kind _ _ (sym (match .keys8) ∙ kind .ensures) (given .tables .sets-held))
 
 same-length-9 : tie.Need-same-length-9
 same-length-9 c = search needs
 
 returns-9 : tie.Need-returns-9
 unfolding type-checks
-returns-9 c = λ t u acc l.
+returns-9 c =
     let kind = c .before .before .before .before .before .kind in
     let match = c .before .before .before .before .match in
     let check-type-ptr = c .before .before .check-type-ptr in
-    meant (check-type-ptr .ensures (holding _ t)) (by-kind _ (holding _ t) _ (sym (match .keys9) ∙ kind .ensures))
+    meant (check-type-ptr .ensures) (by-kind _ _ (sym (match .keys9) ∙ kind .ensures) refl)
 
 same-length-10 : tie.Need-same-length-10
 same-length-10 c = search needs
 
 returns-10 : tie.Need-returns-10
 unfolding type-checks
-returns-10 c = λ t u acc l.
+returns-10 c =
+    let given = c .before .before .before .before .before .before .before .before .pre in
     let kind = c .before .before .before .before .before .kind in
     let match = c .before .before .before .before .match in
     let check-type-slice-ref = c .before .before .check-type-slice-ref in
-    meant (check-type-slice-ref .ensures t u (lt-trans (row-of _ acc _ l .inner-falls 10 refl (sym (kind .ensures) ∙ match .keys10)) l))
-    (by-kind _ (holding _ t) _ (sym (match .keys10) ∙ kind .ensures))
+    let inside = row-of _ (given .tables .accepted) _ (given .below) .inner-falls 10 refl (sym (kind .ensures) ∙ match .keys10) in
+    meant (check-type-slice-ref .ensures)
+    (slice-ref (given .tables) _ (lt-trans inside (given .below)) ∙ by-kind _ _ (sym (match .keys10) ∙ kind .ensures) refl)
 
 same-length-11 : tie.Need-same-length-11
 same-length-11 c = search needs
 
 returns-11 : tie.Need-returns-11
 unfolding type-checks
-returns-11 c = λ t u acc l.
+returns-11 c =
+    let given = c .before .before .before .before .before .before .before .before .pre in
     let kind = c .before .before .before .before .before .kind in
     let match = c .before .before .before .before .match in
     let check-type-array = c .before .before .check-type-array in
-    meant (check-type-array .ensures (holding _ t) u (lt-trans (row-of _ acc _ l .inner-falls 11 refl (sym (kind .ensures) ∙ match .keys11)) l))
-    (by-kind _ (holding _ t) _ (sym (match .keys11) ∙ kind .ensures))
+    let inside = row-of _ (given .tables .accepted) _ (given .below) .inner-falls 11 refl (sym (kind .ensures) ∙ match .keys11) in
+    meant (check-type-array .ensures)
+    (array-of (given .tables) _ (lt-trans inside (given .below)) ∙ by-kind _ _ (sym (match .keys11) ∙ kind .ensures) refl)
 
 same-length-12 : tie.Need-same-length-12
 same-length-12 c = search needs
 
 returns-12 : tie.Need-returns-12
 unfolding type-checks
-returns-12 c = λ t u acc l.
+returns-12 c =
     let kind = c .before .before .before .before .before .kind in
     let match = c .before .before .before .before .match in
     let check-type-fn = c .before .before .check-type-fn in
-    meant (check-type-fn .ensures (holding _ t)) (by-kind _ (holding _ t) _ (sym (match .keys12) ∙ kind .ensures))
+    meant (check-type-fn .ensures) (by-kind _ _ (sym (match .keys12) ∙ kind .ensures) refl)
 
 returns-13 : tie.Need-returns-13
-returns-13 c = λ t u acc l.
+returns-13 c =
     let kind = c .before .kind in
-    meant (none _ _) (nothing _ (holding _ t) _ _ (c .match .rest .0 .0 .0 .0 .0 .0 .0 .0 .0 .0 .0 .1)
+    meant (none _ _) (nothing _ (typesOf _) _ _ (c .match .rest .0 .0 .0 .0 .0 .0 .0 .0 .0 .0 .0 .1)
     (c .match .rest .0 .0 .0 .0 .0 .0 .0 .0 .0 .0 .1) (c .match .rest .0 .0 .0 .0 .0 .0 .0 .0 .0 .1) (c .match .rest .0 .0 .0 .0 .0 .0 .0 .0 .1)
     (c .match .rest .0 .0 .0 .0 .0 .0 .0 .1) (c .match .rest .0 .0 .0 .0 .0 .0 .1) (c .match .rest .0 .0 .0 .0 .0 .1) (c .match .rest .0 .0 .0 .0 .1)
-    (c .match .rest .0 .0 .0 .1) (c .match .rest .0 .0 .1) (c .match .rest .0 .1) (c .match .rest .1) ∙ by-kind _ (holding _ t) _ (kind .ensures))
+    (c .match .rest .0 .0 .0 .1) (c .match .rest .0 .0 .1) (c .match .rest .0 .1) (c .match .rest .1) ∙ by-kind _ _ (kind .ensures) refl)
 
 pub check-type-spec : {M : Type 1} → statement M
 check-type-spec =

@@ -1,7 +1,6 @@
 -- `typecheck_rows::rows::check_type_array` meets its contract: the test is that of the definition. Assumes nothing.
 use borrow.Author.Needs.{needs}
 use Rattle.errors.specs.Sink.{meant-if}
-use Rattle.rules.specs.Check.{check-type-array}
 use Rattle.typecheck_rows.proofs.rows.check_type_array.Statement.{statement}
 use Rattle.typecheck_rows.proofs.rows.check_type_array.Tie as tie
 
@@ -18,12 +17,11 @@ same-length : tie.Need-same-length
 same-length c = search needs
 
 returns : tie.Need-returns
-unfolding check-type-array
-returns c = λ t u l.
+returns c =
     let inner = c .before .before .before .before .inner in
     let is-unsized = c .before .before .before .is-unsized in
     let row-error = c .before .before .row-error in
-    meant-if _ (row-error .ensures) (rw (inner .ensures) at (is-unsized .ensures _ t u (rw (inner .ensures) l)))
+    meant-if _ (row-error .ensures) (rw (inner .ensures) at (is-unsized .ensures))
 
 pub check-type-array-spec : {M : Type 1} → statement M
 check-type-array-spec =

@@ -19,7 +19,7 @@ same-length c = search needs
 
 returns : tie.Need-returns
 unfolding check-type-ident
-returns c = λ t.
+returns c =
     let row-name = c .before .before .before .before .row-name in
     let is-unsupported = c .before .before .before .is-unsupported in
     let row-error = c .before .before .row-error in

@@ -29,14 +29,14 @@ same-length c = search needs
 
 returns : tie.Need-returns
 unfolding check-type-ref
-returns c = λ t.
+returns c =
     let is-unpinned = c .before .before .before .before .before .before .before .before .before .before .before .is-unpinned in
     let inner = c .before .before .before .before .before .before .before .before .before .before .inner in
     let requires-pin = c .before .before .before .before .before .before .before .before .before .requires-pin in
     let and = c .before .before .before .before .before .before .before .before .and in
     let row-error = c .before .before .before .before .before .before .row-error in
     let check-pointee = c .before .before .check-pointee in
-    let pin = rw (is-unpinned .ensures, requires-pin .ensures t, inner .ensures) at (and .ensures) in
+    let pin = rw (is-unpinned .ensures, requires-pin .ensures, inner .ensures) at (and .ensures) in
     rw append-assoc (also (meant-if _ (row-error .ensures) pin) (check-pointee .ensures))
 
 pub check-type-ref-spec : {M : Type 1} → statement M

@@ -3,7 +3,6 @@ use borrow.Author.Needs.{needs}
 use Rattle.errors.specs.Sink.{meant-if}
 use mathlib.Core.Path.{ap, _∙_}
 use mathlib.Core.Bool.{not}
-use Rattle.rules.specs.Check.{check-type-slice-ref}
 use Rattle.rules.specs.Diagnostics.{bit}
 use Rattle.typecheck_rows.proofs.Details.{detailed}
 use Rattle.typecheck_rows.proofs.rows.check_type_slice_ref.Statement.{statement}
@@ -25,13 +24,12 @@ same-length : tie.Need-same-length
 same-length c = search needs
 
 returns : tie.Need-returns
-unfolding check-type-slice-ref
-returns c = λ t u l.
+returns c =
     let is-slice-element = c .before .before .before .before .before .before .is-slice-element in
     let is-opaque-element = c .before .before .before .before .before .is-opaque-element in
     let made = c .before .before .before .bit in
     let row-error = c .before .before .row-error in
-    meant-if _ (detailed _ _ _ (row-error .ensures) (made .ensures ∙ ap bit (is-opaque-element .ensures))) (ap not (is-slice-element .ensures t u l))
+    meant-if _ (detailed _ _ _ (row-error .ensures) (made .ensures ∙ ap bit (is-opaque-element .ensures))) (ap not (is-slice-element .ensures))
 
 pub check-type-slice-ref-spec : {M : Type 1} → statement M
 check-type-slice-ref-spec =

@@ -31,7 +31,7 @@ or-requires-2 : tie.Need-or-requires-2
 or-requires-2 c κs = search needs
 
 returns : tie.Need-returns
-returns c = λ t u l.
+returns c =
     let target-name = c .before .before .before .before .before .before .before .before .target-name in
     let has = c .before .before .before .before .before .before .before .has in
     let has2 = c .before .before .before .before .before .before .has2 in
@@ -42,7 +42,7 @@ returns c = λ t u l.
     let and = c .before .and in
     rw (
       and .ensures,
-      is-unsized .ensures _ _ u (rw (inner .ensures) l),
+      is-unsized .ensures,
       inner .ensures,
       target-is .ensures,
       or .ensures,

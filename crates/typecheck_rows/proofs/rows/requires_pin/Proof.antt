@@ -27,7 +27,7 @@ or-requires-2 c κs = search needs
 
 returns : tie.Need-returns
 unfolding requires-pin
-returns c = λ t.
+returns c =
     let row-name = c .before .before .before .before .before .before .row-name in
     let is-opaque = c .before .before .before .before .before .is-opaque in
     let or = c .before .before .before .before .or in

@@ -19,19 +19,19 @@ describe-ident-requires c κs = search needs
 
 returns : tie.Need-returns
 unfolding describe is
-returns c = λ t.
+returns c =
     let args = c .before .before .before .before .before .args in
     let kind = c .before .before .before .kind in
     let if1 = c .before .before .if1 in
     let row-name = c .before .row-name in
-    if-taken _ _ (eq-eqb _ _ (if1 .taken)) (rw (row-name .ensures) at (c .describe-ident .ensures (args .s .now) t)) (rw (kind .ensures))
+    if-taken _ _ (eq-eqb _ _ (if1 .taken)) (rw (row-name .ensures) at (c .describe-ident .ensures (args .s .now))) (rw (kind .ensures))
 
 describe-other-requires : tie.Need-describe-other-requires
 describe-other-requires c κs = search needs
 
 returns-2 : tie.Need-returns-2
 unfolding describe describeOther is
-returns-2 c = λ t.
+returns-2 c =
     let kind = c .before .before .kind in
     let if1 = c .before .if1 in
     if-left _ _ (ne-eqb _ _ (if1 .left)) (rw (kind .ensures) at (c .describe-other .ensures)) (rw (kind .ensures))

@@ -42,7 +42,7 @@ pick-requires-7 c κs = search needs
 
 returns : tie.Need-returns
 unfolding describe-ident
-returns c = λ s t.
+returns c = λ s.
     let pick = c .before .before .before .before .before .before .before .before .before .before .before .pick in
     let pick2 = c .before .before .before .before .before .before .before .before .before .before .pick2 in
     let has = c .before .before .before .before .before .before .before .before .before .has in

@@ -18,7 +18,7 @@ or-requires-2 c κs = search needs
 
 returns : tie.Need-returns
 unfolding is-unsized-ident
-returns c = λ s t.
+returns c = λ s.
     let is-cxx-unsized = c .before .before .before .is-cxx-unsized in
     let or = c .before .before .or in
     let has = c .before .has in

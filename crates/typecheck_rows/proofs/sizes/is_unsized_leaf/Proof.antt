@@ -16,12 +16,12 @@ is-unsized-ident-requires c κs = search needs
 
 returns : tie.Need-returns
 unfolding unsizedLeaf
-returns c = λ t.
+returns c =
     let args = c .before .before .before .before .before .args in
     let is = c .before .before .before .is in
     let if1 = c .before .before .if1 in
     let row-name = c .before .row-name in
-    if-taken _ _ (if1 .taken) (rw (row-name .ensures) at (c .is-unsized-ident .ensures (args .s .now) t)) (is .ensures)
+    if-taken _ _ (if1 .taken) (rw (row-name .ensures) at (c .is-unsized-ident .ensures (args .s .now))) (is .ensures)
 
 is-requires-2 : tie.Need-is-requires-2
 is-requires-2 c κs = search needs
@@ -40,7 +40,7 @@ or-requires-2 c κs = search needs
 
 returns-2 : tie.Need-returns-2
 unfolding unsizedLeaf
-returns-2 c = λ t.
+returns-2 c =
     let is = c .before .before .before .before .before .before .is in
     let if1 = c .before .before .before .before .before .if1 in
     let is2 = c .before .before .before .before .is2 in

@@ -16,7 +16,7 @@ marked-requires c κs = search needs
 
 returns : tie.Need-returns
 unfolding unsizedRow
-returns c = λ t.
+returns c =
     let is = c .before .before .before .is in
     let if1 = c .before .before .if1 in
     let inner = c .before .inner in
@@ -27,10 +27,10 @@ is-unsized-leaf-requires c κs = search needs
 
 returns-2 : tie.Need-returns-2
 unfolding unsizedRow
-returns-2 c = λ t.
+returns-2 c =
     let is = c .before .before .is in
     let if1 = c .before .if1 in
-    if-left _ _ (if1 .left) (c .is-unsized-leaf .ensures t) (is .ensures)
+    if-left _ _ (if1 .left) (c .is-unsized-leaf .ensures) (is .ensures)
 
 pub is-unsized-row-spec : {M : Type 1} → statement M
 is-unsized-row-spec =

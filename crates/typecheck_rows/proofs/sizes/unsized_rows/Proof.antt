@@ -6,10 +6,9 @@ use native.Mathlib.Omega.{arith}
 use lib.ListN.{length, length-replicate, length-set}
 use Rattle.rules.specs.Diagnostics.{bit}
 use Rattle.rules.specs.View.{rows}
-use Rattle.rules.specs.Types.{Types}
 use Rattle.rules.specs.Check.{is-unsized-within}
 use Rattle.laws.proofs.Accepted.Sheet.{sheet-of}
-use Rattle.typecheck_rows.specs.Tables.{holding}
+use Rattle.typecheck_rows.specs.Tables.{tabled}
 use Rattle.typecheck_rows.specs.Tests.{unsizedRow}
 use Rattle.typecheck_rows.proofs.Upward.{Right, right-start, right-next}
 use Rattle.typecheck_rows.proofs.UnsizedTable.{unsized-up, unsized-rows}
@@ -18,7 +17,7 @@ use Rattle.typecheck_rows.proofs.sizes.unsized_rows.Tie as tie
 
 abbrev Inv-loop : tie.InvT-loop
 Inv-loop s sets n table₀ r₀ table r = (r ≤ n) × (n ≤ 1024) × (length table ≡ 1024) ×
-    ((t : Types) → Right (is-unsized-within s (holding sets t)) table r)
+    Right (is-unsized-within s (tabled s sets)) table r
 
 abbrev μ-loop : tie.MeasureT-loop
 μ-loop s sets n table₀ r₀ table r = n - r
@@ -29,7 +28,7 @@ rows-requires c κs = search needs
 loop-holds : tie.Need-loop-holds Inv-loop μ-loop
 loop-holds c =
     let pre = c .before .before .pre in
-    (omega arith, rw (c .rows .ensures) (sheet-of _ pre .few-rows), length-replicate {A = ℕ} 1024 0, λ t. right-start _ _)
+    (omega arith, rw (c .rows .ensures) (sheet-of _ pre .few-rows), length-replicate {A = ℕ} 1024 0, right-start _ _)
 
 add-r : tie.Need-add-r Inv-loop μ-loop
 add-r c = search needs
@@ -60,15 +59,15 @@ loop-again c =
       omega arith,
       at .inv .1,
       simp length-set (at .inv .2),
-      λ t. right-next _ (unsizedRow _ (holding _ t)) _ _ (unsized-up _ _ pre _ (rw (rows .ensures) at (loop-test .taken))) (omega arith) (omega arith)
-          (at .inv .3 t) (c .mark .ensures ∙ ap bit (is-unsized-row .ensures t)),
+      right-next _ (unsizedRow _ (tabled _ _)) _ _ (unsized-up _ _ pre _ (rw (rows .ensures) at (loop-test .taken))) (omega arith) (omega arith)
+          (at .inv .3) (c .mark .ensures ∙ ap bit (is-unsized-row .ensures)),
     )
 
 returns : tie.Need-returns Inv-loop μ-loop
-returns c = λ t.
+returns c =
     let rows = c .before .before .rows in
     let loop = c .before .loop in
-    let e : loop .r ≡ rows .result = omega arith in unsized-rows _ (holding _ t) _ (e ∙ rows .ensures) (loop .inv .3 t)
+    let e : loop .r ≡ rows .result = omega arith in unsized-rows _ (tabled _ _) _ (e ∙ rows .ensures) (loop .inv .3)
 
 pub unsized-rows-spec : {M : Type 1} → statement M
 unsized-rows-spec =

@@ -24,7 +24,7 @@ same-length c = search needs
 
 returns : tie.Need-returns
 unfolding check-type-box
-returns c = λ t.
+returns c =
     let is-cxx-target = c .before .before .before .before .before .before .before .before .is-cxx-target in
     let row-error = c .before .before .before .before .before .before .before .row-error in
     let is-box-target = c .before .before .before .is-box-target in

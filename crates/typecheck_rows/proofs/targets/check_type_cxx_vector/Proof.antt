@@ -17,7 +17,7 @@ same-length c = search needs
 
 returns : tie.Need-returns
 unfolding check-type-cxx-vector when
-returns c = λ t.
+returns c =
     let is-rust-target = c .before .before .before .before .before .is-rust-target in
     let if1 = c .before .before .before .before .if1 in
     let row-error = c .before .before .row-error in
@@ -34,7 +34,7 @@ same-length-2 c = search needs
 
 returns-2 : tie.Need-returns-2
 unfolding check-type-cxx-vector when
-returns-2 c = λ t.
+returns-2 c =
     let is-rust-target = c .before .before .before .before .before .before .is-rust-target in
     let if1 = c .before .before .before .before .before .if1 in
     let is-vector-element = c .before .before .before .is-vector-element in

@@ -4,7 +4,7 @@ use Rattle.errors.specs.Sink.{meant, taken, left, none}
 use Rattle.rules.specs.Check.{check-type-box, check-type-rust-vec}
 use Rattle.rules.specs.Diagnostics.{when}
 use mathlib.Core.Path.{ap}
-use Rattle.typecheck_rows.specs.Tables.{holding}
+use Rattle.typecheck_rows.specs.Tables.{tabled}
 use Rattle.typecheck_rows.proofs.targets.check_type_rust_vec.Statement.{statement}
 use Rattle.typecheck_rows.proofs.targets.check_type_rust_vec.Tie as tie
 
@@ -19,7 +19,7 @@ same-length c = search needs
 
 returns : tie.Need-returns
 unfolding check-type-rust-vec when
-returns c = λ t.
+returns c =
     let is-cxx-target = c .before .before .before .before .before .is-cxx-target in
     let if1 = c .before .before .before .before .if1 in
     let row-error = c .before .before .row-error in
@@ -30,7 +30,7 @@ is-vec-element-requires c κs = search needs
 
 returns-2 : tie.Need-returns-2
 unfolding check-type-rust-vec when
-returns-2 c = λ t.
+returns-2 c =
     let is-cxx-target = c .before .before .before .is-cxx-target in
     let if1 = c .before .before .if1 in
     let is-vec-element = c .before .is-vec-element in
@@ -41,7 +41,7 @@ target-is-requires c κs = search needs
 
 returns-3 : tie.Need-returns-3
 unfolding check-type-rust-vec when
-returns-3 c = λ t.
+returns-3 c =
     let is-cxx-target = c .before .before .before .before .before .is-cxx-target in
     let if1 = c .before .before .before .before .if1 in
     let is-vec-element = c .before .before .before .is-vec-element in
@@ -64,7 +64,7 @@ same-length-2 c = search needs
 
 returns-4 : tie.Need-returns-4
 unfolding check-type-rust-vec when
-returns-4 c = λ t.
+returns-4 c =
     let is-cxx-target = c .before .before .before .before .before .before .before .before .before .before .before .before .is-cxx-target in
     let if1 = c .before .before .before .before .before .before .before .before .before .before .before .if1 in
     let is-vec-element = c .before .before .before .before .before .before .before .before .before .before .is-vec-element in
@@ -76,7 +76,7 @@ returns-4 c = λ t.
     let if4 = c .before .before .before .before .if4 in
     let box = c .before .before .check-type-box in
     left _ _ (if1 .left) (left _ _ (if2 .left)
-    (left _ _ (if3 .left) (taken _ _ (if4 .taken) (meant (box .ensures t) (ap (check-type-box _ (holding _ t)) (inner .ensures)))
+    (left _ _ (if3 .left) (taken _ _ (if4 .taken) (meant (box .ensures) (ap (check-type-box _ (tabled _ _)) (inner .ensures)))
     (rw (inner .ensures) at (is .ensures))) (target-is .ensures)) (is-vec-element .ensures)) (is-cxx-target .ensures)
 
 row-error-requires-2 : tie.Need-row-error-requires-2
@@ -87,7 +87,7 @@ same-length-3 c = search needs
 
 returns-5 : tie.Need-returns-5
 unfolding check-type-rust-vec when
-returns-5 c = λ t.
+returns-5 c =
     let is-cxx-target = c .before .before .before .before .before .before .before .before .before .before .before .before .is-cxx-target in
     let if1 = c .before .before .before .before .before .before .before .before .before .before .before .if1 in
     let is-vec-element = c .before .before .before .before .before .before .before .before .before .before .is-vec-element in

@@ -17,7 +17,7 @@ same-length c = search needs
 
 returns : tie.Need-returns
 unfolding check-type-shared-ptr when
-returns c = λ t.
+returns c =
     let is-rust-target = c .before .before .before .before .before .is-rust-target in
     let if1 = c .before .before .before .before .if1 in
     let row-error = c .before .before .row-error in
@@ -28,7 +28,7 @@ is-other-target-requires c κs = search needs
 
 returns-2 : tie.Need-returns-2
 unfolding check-type-shared-ptr when
-returns-2 c = λ t.
+returns-2 c =
     let is-rust-target = c .before .before .before .is-rust-target in
     let if1 = c .before .before .if1 in
     let is-other-target = c .before .is-other-target in
@@ -45,7 +45,7 @@ same-length-2 c = search needs
 
 returns-3 : tie.Need-returns-3
 unfolding check-type-shared-ptr when
-returns-3 c = λ t.
+returns-3 c =
     let is-rust-target = c .before .before .before .before .before .before .before .before .before .is-rust-target in
     let if1 = c .before .before .before .before .before .before .before .before .if1 in
     let is-other-target = c .before .before .before .before .before .before .before .is-other-target in
@@ -64,7 +64,7 @@ same-length-3 c = search needs
 
 returns-4 : tie.Need-returns-4
 unfolding check-type-shared-ptr when
-returns-4 c = λ t.
+returns-4 c =
     let is-rust-target = c .before .before .before .before .before .before .before .before .before .is-rust-target in
     let if1 = c .before .before .before .before .before .before .before .before .if1 in
     let is-other-target = c .before .before .before .before .before .before .before .is-other-target in
