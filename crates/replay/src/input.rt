@@ -1,9 +1,14 @@
 // The stored file, in pieces: testdata/README.md.
+ghost use mathlib.Core.Path.{_≡_};
+ghost use Prim.Native.Nat.{_+_, _*_};
 ghost use Rattle.io.specs.Counts.{Counts};
+ghost use Rattle.rules.specs.Format.{pairAt};
 use libc::STDIN_FILENO;
 
 // The number of four bytes at a place, low byte first.
-pub fn long_at(b: &[u8], at: u32) -> u32 {
+pub fn long_at(b: &[u8], at: u32) -> u32
+    ensures { λ r. ⌜ r ≡ pairAt (now (b .entry)) at + 65536 * pairAt (now (b .entry)) (at + 2) ⌝ }
+{
     sheet::pair_at(b, at as usize) as u32 + 65536 * (sheet::pair_at(b, at as usize + 2) as u32)
 }
 

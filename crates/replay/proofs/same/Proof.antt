@@ -1,9 +1,9 @@
--- `replay::answers::same` ends, and reads inside both slices: each turn leaves one byte fewer, and both are long enough by the tests before. Assumes nothing.
+-- `replay::same` ends, and reads inside both slices: each turn leaves one byte fewer, and both are long enough by the tests before. Assumes nothing.
 use borrow.Author.Needs.{needs}
 use Prim.Native.Nat.{_+_, _-_, _≤_}
 use lib.ListN.{length}
-use Rattle.replay.proofs.answers.same.Statement.{statement}
-use Rattle.replay.proofs.answers.same.Tie as tie
+use Rattle.replay.proofs.same.Statement.{statement}
+use Rattle.replay.proofs.same.Tie as tie
 
 abbrev Inv-loop : tie.InvT-loop
 Inv-loop a i b j n i' j' n' k₀ k = (k ≤ n') × (i' + n' ≤ length a) × (j' + n' ≤ length b)

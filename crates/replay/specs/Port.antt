@@ -1,0 +1,42 @@
+-- What `replay` holds against the stored answers: the call's answer with its first records as bytes, and the collected rows.
+-- Assumes nothing: these are definitions.
+use Prim.Native.Nat.{ℕ, _+_, _*_, _≤_, _<_}
+use mathlib.Core.Path.{_≡_}
+use mathlib.Core.List.{List, [], _++_, flatMap}
+use lib.ListN.{length, getD, take, replicate}
+use lib.Seq.{sets}
+use Rattle.rules.specs.declared.Step.{Step}
+use Rattle.rules.specs.declared.Step.the-variants.{Next, Refused}
+use Rattle.rules.specs.declared.Answer.{Answer}
+use Rattle.rules.specs.declared.Diagnostic.{Diagnostic}
+use Rattle.rules.specs.Format.{pairAt}
+use Rattle.rules.specs.Types.{typesOf}
+use Rattle.rules.specs.Answer.{readWith, call}
+use Rattle.bridge_core.specs.Run.{recordsOf}
+use Rattle.errors.specs.Records.{recordBytes}
+use Rattle.layout.specs.Layout.{answerBytes, layoutOf}
+
+-- an answer that tells of n records, and records behind it
+pub record Laid (a : Answer) (ds : List Diagnostic) (n : ℕ) (out out′ : List ℕ) : Type 0 where
+  pub bytes : out′ ≡ sets out 0 (answerBytes a n ++ flatMap recordBytes ds)
+
+-- what the call answers, with the first 4,096 records; nothing where the buffer has no room for so many
+pub record Told (s out out′ : List ℕ) : Type 0 where
+  pub bytes : 34080 ≤ length out → out′ ≡ sets out 0 (layoutOf (call s (replicate 4096 0) [] .answer) (take 4096 (recordsOf s 4096)))
+  pub untouched : length out < 34080 → out′ ≡ out
+
+-- ## The collected rows
+
+-- n rows, as pairs, are those that are collected
+pub record Collected (s : List ℕ) (n : ℕ) (scratch : List ℕ) : Type 0 where
+  pub count : n ≡ length (typesOf s .all)
+  pub row : (k : ℕ) → k < n → pairAt scratch (2 * k) ≡ getD (typesOf s .all) k 0
+
+-- by what the reader says of the sheet: a refused one has none
+unfoldable pub rowsBy : Step → List ℕ → List ℕ
+rowsBy (Refused number position) s = []
+rowsBy (Next _) s = typesOf s .all
+
+pub record RowsOf (s : List ℕ) (room n : ℕ) (scratch : List ℕ) : Type 0 where
+  pub count : n ≡ length (rowsBy (readWith room s) s)
+  pub row : (k : ℕ) → k < n → pairAt scratch (2 * k) ≡ getD (rowsBy (readWith room s) s) k 0
