@@ -12,7 +12,8 @@ use Rattle.rules.specs.Names.{Words, empty, _∋_, add}
 use Rattle.rules.specs.Types.{typesOf}
 use Rattle.rules.specs.Improper.{looksOf, passTo, search, improperOf}
 use Rattle.laws.proofs.Tests.{never}
-use Rattle.laws.proofs.Counts.{free, free-le}
+use Rattle.laws.specs.Left.{free}
+use Rattle.laws.proofs.Counts.{free-le}
 use Rattle.laws.proofs.ImproperSearch.{Looked, passed}
 use Rattle.laws.proofs.NameSets.{has-add, length-add}
 use Rattle.laws.proofs.Accepted.{fits}

@@ -7,7 +7,7 @@ ghost use Rattle.rules.specs.Names.{Words, _∋_, add};
 ghost use Rattle.rules.specs.View.{rows};
 ghost use Rattle.rules.specs.Types.{Types, typesOf};
 ghost use Rattle.rules.specs.Improper.{definite, lookName, lookRow, looksOf, hits};
-ghost use Rattle.laws.proofs.Fuel.{isThrough};
+ghost use Rattle.laws.specs.Kinds.{isThrough};
 ghost use Rattle.improper.specs.Looks.{lookOf, improperKind, Sets, Table};
 ghost use Rattle.improper.specs.Post.{Collected, Looked, Passes, Searched};
 use rules::NameSet;

@@ -6,7 +6,8 @@ use mathlib.Core.Bool.{Bool, true, false, _||_}
 use Prim.Native.Nat.{ℕ, zero, suc, _≤_, _<_}
 use native.Mathlib.Omega.{arith}
 use lib.Dec.{T, eqb}
-use Rattle.laws.proofs.Counts.{Eq?, same, other, eq?, eqb-same, free, free-one, free-le}
+use Rattle.laws.specs.Left.{free}
+use Rattle.laws.proofs.Counts.{Eq?, same, other, eq?, eqb-same, free-one, free-le}
 use Rattle.rules.specs.Improper.{Look, fine, bad, to, Looks}
 use Rattle.rules.specs.Improper as I
 use Rattle.laws.proofs.Tests.{or-cases, or-left, or-right}

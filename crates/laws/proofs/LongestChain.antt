@@ -3,11 +3,13 @@
 use mathlib.Core.Path.{_≡_, refl, sym, _∙_, subst}
 use mathlib.Core.Logic.{_≢_, _⊎_, inl, inr, _↔_}
 use mathlib.Core.Bool.{Bool, true, false, not, _||_}
-use Prim.Native.Nat.{ℕ, zero, suc, _≤_, _<_, max, min}
+use Prim.Native.Nat.{ℕ, zero, suc, _≤_, _<_, max}
 use native.Mathlib.Omega.{arith}
 use native.Mathlib.Decide.{decLe}
 use lib.Dec.{T, eqb, leb, leb→le, nleb→lt}
-use Rattle.laws.proofs.Counts.{Eq?, same, other, eq?, eqb-same, eqb-true, eqb-false, free, free-one}
+use Rattle.laws.specs.Left.{free}
+use Rattle.laws.specs.TierPass.{upper, up}
+use Rattle.laws.proofs.Counts.{Eq?, same, other, eq?, eqb-same, eqb-true, eqb-false, free-one}
 use Rattle.rules.specs.Graph.{Graph}
 use Rattle.laws.proofs.Chains.{Good, Edge, Chain, edge, link, Endless}
 use Rattle.laws.proofs.ChainLaws.{snoc}
@@ -25,14 +27,6 @@ Way G (suc m) i = (j : ℕ) × Edge G i j × Way G m j
 unfoldable pub long : Graph → ℕ → ℕ → ℕ
 long G zero i = 0
 long G (suc k) i = tops (λ t. suc t) (λ j. long G k j) G i (G .fields i)
-
--- what an edge to an item of tier t gives
-abbrev pub upper : Bool → ℕ → ℕ
-upper true t = 255
-upper false t = min 254 (suc t)
-
-abbrev pub up : ℕ → ℕ
-up t = upper (eqb t 255) t
 
 unfoldable pub tier : Graph → ℕ → ℕ → ℕ
 tier G n i = tierAt n (long G n i)

@@ -7,9 +7,10 @@ use lib.Dec.{T}
 use Rattle.laws.proofs.Counts.{Eq?, same, other, eq?}
 use Rattle.rules.specs.Graph.{Graph}
 use Rattle.rules.specs.Tiers.{tops}
+use Rattle.laws.specs.TierPass.{up}
 use Rattle.laws.proofs.Chains.{Good, Edge, edge, link, Endless}
 use Rattle.laws.proofs.WalkOrder.{chain-end}
-use Rattle.laws.proofs.LongestChain.{tops-ge, tops-at, up, tier, tier-endless, tier-step, loops-endless, endless-loops}
+use Rattle.laws.proofs.LongestChain.{tops-ge, tops-at, tier, tier-endless, tier-step, loops-endless, endless-loops}
 
 -- the tier rule of document 01, over any graph
 pub record TierRule (G : Graph) (t : ℕ → ℕ) : Type 0 where

@@ -13,7 +13,8 @@ use Rattle.rules.specs.Graph.{Graph}
 use Rattle.rules.specs.Walk.{itemOut, itemsOut, sortOut}
 use Rattle.rules.specs.Order.{graphOf, walkOf}
 use Rattle.rules.specs.Answer.{places}
-use Rattle.laws.proofs.Counts.{fresh, fresh-zeros}
+use Rattle.laws.specs.Left.{fresh}
+use Rattle.laws.proofs.Counts.{fresh-zeros}
 use Rattle.laws.proofs.Accepted.{fits}
 use Rattle.errors.specs.declared.Errors.{Errors}
 use Rattle.toposort.specs.declared.Walk.{Walk}

@@ -25,8 +25,8 @@ use Rattle.laws.proofs.LastItems.{good-items}
 use Rattle.laws.proofs.Accepted.{fits}
 use Rattle.laws.proofs.WalkOrder.{each-once}
 use Rattle.laws.proofs.WalkCalls.{order-few}
-use Rattle.laws.proofs.LongestChain.{up}
-use Rattle.laws.proofs.TierPass.{tierFrom, tiersTo, startTo, passOf, pass-front, pass-is}
+use Rattle.laws.specs.TierPass.{up, tierFrom, tiersTo, startTo, passOf}
+use Rattle.laws.proofs.TierPass.{pass-front, pass-is}
 use Rattle.laws.proofs.Rule3Order.{tiers-are}
 use Rattle.toposort.specs.Post.{Ordered, Tiered}
 use Rattle.toposort.proofs.Edges.{whole}

@@ -12,7 +12,8 @@ use Rattle.rules.specs.declared.Step.the-variants.{Next}
 use Rattle.rules.specs.Base.{if_then_else_}
 use Rattle.rules.specs.Format.{end, pairAt, offset, limited, flagged, signature, rowKinds, bodyOf, row, Accepted}
 use Rattle.rules.specs.View.{Ident, Ref, Ptr, SliceRef, Fn, rows, kind, rowName, rowFlags, inner, fnReturn, fnArgCount, fnArg, past}
-use Rattle.laws.proofs.Accepted.Steps.{after-is, Reads, _then_, nothing-read, RowOrNone, ListAt, limited-reads, orNone-reads, list-reads}
+use Rattle.laws.specs.Kinds.{RowOrNone}
+use Rattle.laws.proofs.Accepted.Steps.{after-is, Reads, _then_, nothing-read, ListAt, limited-reads, orNone-reads, list-reads}
 use Rattle.laws.proofs.Accepted.Sheet.{bodies-of}
 use Rattle.laws.proofs.Tests.{never}
 

@@ -13,6 +13,7 @@ use Rattle.rules.specs.declared.Step.{Step}
 use Rattle.rules.specs.declared.Step.the-variants.{Next, Refused}
 use Rattle.rules.specs.Format.{check, after, _>>_, end, each, pairAt, offset, one, limited, orNone, times, list, typeHead, repr, variants, receivers, receiver}
 use Rattle.rules.specs.View.{kind, past, entry}
+pub use Rattle.laws.specs.Kinds.{RowOrNone}
 use Rattle.laws.proofs.Tests.{or-is, both-are}
 
 -- a refusal is no place
@@ -42,10 +43,6 @@ _then_ {m} {k} a b = record { of = λ at h. let c = after-is (m at) k h in (c .0
 infixl 20 _then_
 pub nothing-read : Reads end (λ at q. q ≡ at)
 nothing-read = record { of = λ at h. sym (next-is h) }
-
--- a return row, or none
-abbrev pub RowOrNone : (limit v : ℕ) → Type 0
-RowOrNone limit v = (v ≡ 65535) ⊎ (v < limit)
 
 module _ (s : List ℕ) where
   -- a list: its count is allowed, and so is each entry

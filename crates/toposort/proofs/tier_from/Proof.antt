@@ -9,7 +9,7 @@ use Rattle.rules.specs.View.{fieldCount}
 use Rattle.rules.specs.Types.{typesOf}
 use Rattle.rules.specs.Order.{graphOf}
 use Rattle.rules.specs.Tiers.{tops}
-use Rattle.laws.proofs.LongestChain.{up}
+use Rattle.laws.specs.TierPass.{up}
 use Rattle.toposort.proofs.Edges.{counted-is}
 use Rattle.toposort.proofs.TierTurns.{tops-none, tops-more}
 use Rattle.toposort.proofs.tier_from.Statement.{statement}
