@@ -36,4 +36,6 @@ pub mod Book
 pub mod Rule3Order
 pub mod Rule3Cyclic
 pub mod Rule3Improper
+-- the call
+pub mod Outcomes
 pub mod Due

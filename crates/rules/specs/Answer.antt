@@ -37,6 +37,15 @@ abbrev pub positionOf : Verdict → ℕ
 positionOf verdict.Accepted = 0
 positionOf (verdict.Refused number position) = position
 
+-- the same of what the reader says: a refusal's own, 0 and 0 where there is none
+abbrev pub numberFor : Step → ℕ
+numberFor (Next _) = 0
+numberFor (Refused number position) = number
+
+abbrev pub positionFor : Step → ℕ
+positionFor (Next _) = 0
+positionFor (Refused number position) = position
+
 abbrev pub nameSet : Words → NameSet
 nameSet w = record { words = w }
 
