@@ -17,8 +17,8 @@ pub mod TierTable
 pub mod TierPass
 pub mod TierRule
 -- sets of names
-pub mod ImproperSearch
 pub mod NameSets
+pub mod ImproperSearch
 pub mod Sets
 pub mod SetMembers
 -- sheets

@@ -19,7 +19,7 @@ use Rattle.laws.proofs.Chains.{Good, Edge, Chain, edge, link}
 use Rattle.rules.specs.Walk.{sortOut}
 use Rattle.laws.proofs.WalkOrder.{InOrder, in-order, each-once, edge-or-back, stands, chain-end}
 use Rattle.laws.specs.TierPass.{up, tierFrom, tiersTo, startTo, passOf}
-use Rattle.laws.proofs.LongestChain.{tops-same, tier-wide, tier, tier-endless, tier-step}
+use Rattle.laws.proofs.LongestChain.{largest-same, tier-wide, tier, tier-endless, tier-step}
 use Rattle.rules.specs.Tiers.{tiersOf}
 use Rattle.rules.specs.Answer.{places}
 use Rattle.laws.proofs.TierTable.{table-all, table-none}
@@ -116,7 +116,7 @@ module _ (G : Graph) (n : ℕ) (good : Good G n) where
             go (no q) (inr c) = h .waits j sj (omega arith) ∙ sym (tier-endless G n good j (good .below j sj) .1 (i, c, link d c))
 
         right : tierFrom G t i ≡ tier G n i
-        right = tops-same up up (λ j. getD t j 0) (tier G n) G i (λ j d. ap up (held j d)) ∙ sym (tier-step G n good i (good .below i si))
+        right = largest-same (λ j. up (getD t j 0)) (λ j. up (tier G n j)) G i (λ j d. ap up (held j d)) ∙ sym (tier-step G n good i (good .below i si))
 
         at-given : (x : ℕ) → Eq? x i → place o x < suc p → getD (set t i (tierFrom G t i)) x 0 ≡ tier G n x
         at-given x (same _ e) q = rw e (getD-set-same t i (tierFrom G t i) 0 fits ∙ right)

@@ -1,5 +1,5 @@
--- The tiers as the code finds them, by one pass over the order: each struct item begins at 255, and gets its tier when its turn comes. Laws: proofs/TierPass, where
--- the pass is shown to give the tiers of rules.
+-- The tiers as the code finds them, by one pass over the order: each struct item begins at 255, and gets its tier when its turn comes. Laws: proofs/TierPass,
+-- where the pass is shown to give the tiers of rules.
 -- Assumes nothing: these are definitions.
 use Prim.Native.Nat.{ℕ, zero, suc, min}
 use mathlib.Core.Bool.{Bool, true, false}
@@ -7,7 +7,7 @@ use mathlib.Core.List.{List}
 use lib.Dec.{eqb}
 use lib.ListN.{getD, set, replicate}
 use Rattle.rules.specs.Graph.{Graph}
-use Rattle.rules.specs.Tiers.{tops}
+use Rattle.rules.specs.Tiers.{largest}
 
 -- what an edge to an item of tier t gives: one more, at most 254; and 255 for 255
 abbrev pub upper : Bool → ℕ → ℕ
@@ -17,9 +17,9 @@ upper false t = min 254 (suc t)
 abbrev pub up : ℕ → ℕ
 up t = upper (eqb t 255) t
 
--- the tier of item i, from the tiers so far
+-- the tier of item i, from the tiers so far: the largest that its fields give
 abbrev pub tierFrom : Graph → List ℕ → ℕ → ℕ
-tierFrom G t i = tops up (λ j. getD t j 0) G i (G .fields i)
+tierFrom G t i = largest (λ j. up (getD t j 0)) G i (G .fields i)
 
 -- the first p places of the order, one after another
 unfoldable pub tiersTo : Graph → (order : List ℕ) → (p : ℕ) → List ℕ → List ℕ

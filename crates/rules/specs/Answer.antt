@@ -1,9 +1,8 @@
 -- What one call answers, and how it leaves the list and the scratch: document 01, "The call" and "Refused sheets".
 -- Assumes nothing: these are definitions.
-use Prim.Native.Nat.{ℕ, zero, suc}
+use Prim.Native.Nat.{ℕ, _-_}
 use mathlib.Core.List.{List, [], _∷_, _++_, map}
-use lib.ListN.{length, drop, replicate}
-use lib.Seq.{sets}
+use lib.ListN.{length, take, drop, replicate}
 use lib.Dec.{leb}
 use Rattle.rules.specs.declared.Step.{Step}
 use Rattle.rules.specs.declared.Step.the-variants.{Next, Refused}
@@ -72,7 +71,7 @@ setsOf t improper = t .structs ∷ t .enums ∷ t .cxx ∷ t .rust ∷ t .aliase
 
 -- 255 places: the list, and then zeros
 unfoldable pub places : List ℕ → List ℕ
-places l = sets (replicate 255 0) 0 l
+places l = take 255 l ++ replicate (255 - length l) 0
 
 unfoldable pub accepted : List ℕ → Types → Out → (report : List Diagnostic) → Answer
 accepted s t walk report =
@@ -93,9 +92,9 @@ accepted s t walk report =
 unfoldable pub readWith : (scratch : ℕ) → List ℕ → Step
 readWith n s = after (check (leb 4096 n) 1 0 0) (λ _. read s)
 
--- the first diagnostics that fit
+-- the first diagnostics that fit; the rest of the list is unchanged
 unfoldable pub filled : List Diagnostic → (report : List Diagnostic) → List Diagnostic
-filled list report = sets list 0 report
+filled list report = take (length list) report ++ drop (length report) list
 
 -- the first 4,096 bytes become 0
 unfoldable pub cleared : List ℕ → List ℕ
