@@ -26,7 +26,7 @@ use Rattle.laws.proofs.Accepted.Rows.{hasInner, row-of}
 use Rattle.laws.proofs.Collect.Shown.{shown-falls}
 
 -- what looks at smaller rows only is the same for any fuel above the row
-fuel-same : {A : Type 0} (F : ℕ → ℕ → A) (T : ℕ) → ((f g r : ℕ) → r < T → ((x : ℕ) → x < r → F f x ≡ F g x) → F (suc f) r ≡ F (suc g) r)
+pub fuel-same : {A : Type 0} (F : ℕ → ℕ → A) (T : ℕ) → ((f g r : ℕ) → r < T → ((x : ℕ) → x < r → F f x ≡ F g x) → F (suc f) r ≡ F (suc g) r)
     → (f g r : ℕ) → r < f → r < g → r < T → F f r ≡ F g r
 fuel-same F T step zero g r l m t = absurd (omega arith)
 fuel-same F T step (suc f) zero r l m t = absurd (omega arith)

@@ -26,6 +26,8 @@ pub mod LastItems
 pub mod Accepted
 pub mod Collect
 pub mod Fuel
+pub mod RowBytes
+pub mod RowTrees
 -- the report
 pub mod Messages
 pub mod Tells

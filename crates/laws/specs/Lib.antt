@@ -6,3 +6,4 @@ pub mod Tells
 pub mod Kinds
 pub mod Left
 pub mod TierPass
+pub mod RowTrees

@@ -8,7 +8,7 @@ use mathlib.Core.Bool.{Bool, true, false, _||_, _&&_}
 use native.Mathlib.Omega.{arith}
 use lib.ListN.{length, getD}
 use lib.Dec.{ltb, leb, eqb}
-use borrow.Author.Tests.{ltb-true, eqb-true}
+use borrow.Author.Tests.{ltb-true, leb-true, eqb-true}
 use Rattle.rules.specs.declared.Step.{Step}
 use Rattle.rules.specs.declared.Step.the-variants.{Next, Refused}
 use Rattle.rules.specs.Format.{check, after, _>>_, end, each, pairAt, offset, one, limited, orNone, times, list, typeHead, repr, variants, receivers, receiver}
@@ -60,6 +60,14 @@ module _ (s : List ℕ) where
             let b = after-is (check (ok (pairAt s at)) w at at) (λ _. Next (at + 2)) (a .2) in
             (check-is (ok (pairAt s at)) w at (b .1) .0, sym (next-is (b .2)));
       }
+
+  -- a pair is read within the sheet
+  pub limited-within : (w n at : ℕ) {q : ℕ} → limited s w n at ≡ Next q → at + 2 ≤ length s
+  unfolding limited one
+  limited-within w n at h =
+      let rest : ℕ → Step = λ _. after (check (ltb (pairAt s at) n) w at at) (λ _. Next (at + 2)) in
+      let a = after-is (check (leb (at + 2) (length s)) 5 (length s) at) rest h in
+      leb-true (at + 2) (length s) (check-is (leb (at + 2) (length s)) 5 (length s) (a .1) .0)
 
   pub limited-reads : (w n : ℕ) → Reads (limited s w n) (λ at q. (pairAt s at < n) × (q ≡ at + 2))
   unfolding limited
