@@ -1,9 +1,9 @@
 -- The turns of a pass: over the fields of a name's last struct, and over the names.
 -- Assumes nothing.
 use Prim.Native.Nat.{ℕ, zero, suc, _+_, _-_, _≤_, _<_}
-use mathlib.Core.Path.{_≡_, refl, sym, ap, _∙_, subst}
+use mathlib.Core.Path.{_≡_, refl, sym, ap, _∙_}
 use mathlib.Core.Logic.{_≢_}
-use mathlib.Core.Bool.{Bool, true, false, _||_, or-false}
+use mathlib.Core.Bool.{Bool, true, false, _||_}
 use mathlib.Core.List.{List}
 use native.Mathlib.Numerals.{add-one}
 use native.Mathlib.Omega.{arith}
@@ -17,7 +17,7 @@ use Rattle.rules.specs.Names.{Words, _∋_, add}
 use Rattle.rules.specs.View.{rows, items, rest, entry, fieldCount, field}
 use Rattle.rules.specs.Collect.{none, entersStructs}
 use Rattle.rules.specs.Types.{typesOf, structOf}
-use Rattle.rules.specs.Improper.{Look, fine, bad, lookRow, looksFields, looksLook, looksOf, hits, found, look, passTo}
+use Rattle.rules.specs.Improper.{Looks, fine, bad, lookRow, looksFields, looksLook, looksOf, hits, found, isNew, passTo}
 use Rattle.rules.specs.Rule3.{IsStruct}
 use Rattle.laws.proofs.LastItems.{length-last, of-last}
 use Rattle.laws.proofs.Accepted.{fits}
@@ -28,17 +28,14 @@ use Rattle.improper.proofs.NameLooks.{look-name}
 
 -- ## A field, by its number
 
-abbrev pub hitsIn : (s : List ℕ) → Words → Look → Bool
-hitsIn s w l = hits Words _∋_ add (looksOf s (typesOf s)) 256 w l
+pub hits-name : (w : Words) (c : ℕ) → c < 256 → (w ∋ c) ≡ hits w (lookOf c)
+hits-name w c h = rw (look-name c h)
 
-pub hits-name : (s : List ℕ) (w : Words) (c : ℕ) → c < 256 → (w ∋ c) ≡ hitsIn s w (lookOf c)
-hits-name s w c h = rw (look-name c h)
-
-pub hits-code : (s : List ℕ) (w : Words) (c : ℕ) → 256 ≤ c → eqb c 256 ≡ hitsIn s w (lookOf c)
+pub hits-code : (w : Words) (c : ℕ) → 256 ≤ c → eqb c 256 ≡ hits w (lookOf c)
 unfolding lookOf if_then_else_
-hits-code s w c h = rw (le-ltb c 256 h, if_then_else_) (go (eqb c 256))
+hits-code w c h = rw (le-ltb c 256 h, if_then_else_) (go (eqb c 256))
   where
-    go : (b : Bool) → b ≡ hitsIn s w (if b then bad else fine)
+    go : (b : Bool) → b ≡ hits w (if b then bad else fine)
     go true = refl
     go false = refl
 
@@ -91,7 +88,7 @@ module _ (s looks l : List ℕ) (own : Looked s looks l) (n : ℕ) (small : n < 
 -- ## The fields
 
 abbrev pub foundIn : (s : List ℕ) → Words → (n k : ℕ) → Bool
-foundIn s w n k = found Words _∋_ add (looksOf s (typesOf s)) 256 w n k
+foundIn s w n k = found (looksOf s (typesOf s)) w n k
 
 or-right : (a b : Bool) → b ≡ true → (a || b) ≡ true
 or-right true b e = refl
@@ -102,7 +99,7 @@ module _ (s : List ℕ) (w : Words) (n : ℕ) where
   unfolding found
   found-start = refl
 
-  pub found-on : (k : ℕ) → foundIn s w n k ≡ false → hitsIn s w (looksLook s (typesOf s) n k) ≡ false → foundIn s w n (k + 1) ≡ false
+  pub found-on : (k : ℕ) → foundIn s w n k ≡ false → hits w (looksLook s (typesOf s) n k) ≡ false → foundIn s w n (k + 1) ≡ false
   unfolding found
   found-on k e d = rw (add-one, found, e) d
 
@@ -111,39 +108,41 @@ module _ (s : List ℕ) (w : Words) (n : ℕ) where
   found-later k zero e = let z : 0 + k ≡ k = omega arith in rw z e
   found-later k (suc d) e = let z : suc d + k ≡ suc (d + k) = omega arith in rw (z, found, found-later k d e)
 
-  pub found-hit : (k m : ℕ) → k < m → hitsIn s w (looksLook s (typesOf s) n k) ≡ true → foundIn s w n m ≡ true
+  pub found-hit : (k m : ℕ) → k < m → hits w (looksLook s (typesOf s) n k) ≡ true → foundIn s w n m ≡ true
   unfolding found
   found-hit k m l e =
-      let h : foundIn s w n (suc k) ≡ true = or-right (foundIn s w n k) (hitsIn s w (looksLook s (typesOf s) n k)) e in
+      let h : foundIn s w n (suc k) ≡ true = or-right (foundIn s w n k) (hits w (looksLook s (typesOf s) n k)) e in
       let d : (m - suc k) + suc k ≡ m = omega arith in
       ap (foundIn s w n) (sym d) ∙ found-later (suc k) (m - suc k) h
 
 -- ## The names
-
-abbrev lookIn : (s : List ℕ) → Words → ℕ → Words × Bool
-lookIn s w n = look Words _∋_ add (looksOf s (typesOf s)) 256 w n
 
 pub passes-none : (s : List ℕ) (w : Words) → Passes s w 0 w false
 unfolding passTo
 passes-none s w = record { names = refl; found = refl }
 
 module _ (s : List ℕ) (b : Words) (n : ℕ) (w : Words) (new : Bool) (h : Passes s b n w new) where
-  on : (a : Words × Bool) → lookIn s w n ≡ a → Passes s b (n + 1) (a .0) (new || a .1)
+  abbrev g : Looks
+  g = looksOf s (typesOf s)
+
+  -- as the pass asks it, of its own set
+  asked : (a : Bool) → isNew g w n ≡ a → isNew g (passTo g n b .0) n ≡ a
+  asked a e = ap (λ x. isNew g x n) (sym (h .names)) ∙ e
+
+  stays : isNew g w n ≡ false → Passes s b (n + 1) w new
   unfolding passTo
-  on a e =
-      let before = passTo Words _∋_ add (looksOf s (typesOf s)) 256 n b in
-      record {
-        names = ap (λ x. x .0) (sym e) ∙ rw (add-one, passTo) (ap (λ x. lookIn s x n .0) (h .names));
-        found =
-            ap (λ x. new || x .1) (sym e)
-            ∙ rw (add-one, passTo) (ap (λ x. x || lookIn s w n .1) (h .found) ∙ ap (λ x. before .1 || lookIn s x n .1) (h .names));
-      }
+  stays e = record { names = rw (add-one, passTo, asked false e) (h .names); found = rw (add-one, passTo, asked false e) (h .found) }
 
   pub passes-had : w ∋ n ≡ true → Passes s b (n + 1) w new
-  passes-had e = subst (λ (x : Bool). Passes s b (n + 1) w x) (or-false new) (on (w, false) (rw e))
+  unfolding isNew
+  passes-had e = stays (rw e)
 
   pub passes-not : w ∋ n ≡ false → foundIn s w n (looksFields s (typesOf s) n) ≡ false → Passes s b (n + 1) w new
-  passes-not e d = subst (λ (x : Bool). Passes s b (n + 1) w x) (or-false new) (on (w, false) (rw (e, d)))
+  unfolding isNew
+  passes-not e d = stays (rw (e, d))
 
   pub passes-new : w ∋ n ≡ false → foundIn s w n (looksFields s (typesOf s) n) ≡ true → Passes s b (n + 1) (add w n) true
-  passes-new e d = subst (λ (x : Bool). Passes s b (n + 1) (add w n) x) (or-right new true refl) (on (add w n, true) (rw (e, d)))
+  unfolding isNew passTo
+  passes-new e d =
+      let q : isNew g w n ≡ true = rw (e, d) in
+      record { names = rw (add-one, passTo, asked true q) (ap (λ x. add x n) (h .names)); found = rw (add-one, passTo, asked true q) }

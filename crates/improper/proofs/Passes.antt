@@ -8,26 +8,21 @@ use native.Mathlib.Omega.{arith}
 use lib.ListN.{length}
 use Rattle.rules.specs.Format.{Accepted}
 use Rattle.rules.specs.Diagnostics.{bit}
-use Rattle.rules.specs.Names.{Words, empty, _∋_, add}
+use Rattle.rules.specs.Names.{Words, empty, _∋_}
 use Rattle.rules.specs.Types.{typesOf}
 use Rattle.rules.specs.Improper.{looksOf, passTo, search, improperOf}
 use Rattle.laws.proofs.Tests.{never}
-use Rattle.laws.proofs.Counts.{free, free-le}
-use Rattle.laws.proofs.ImproperSearch.{Looked, passed}
-use Rattle.laws.proofs.NameSets.{has-add, length-add}
+use Rattle.laws.proofs.Counts.{free-le}
+use Rattle.laws.proofs.ImproperSearch.{left, Passed, passed}
 use Rattle.laws.proofs.Accepted.{fits}
 use Rattle.laws.proofs.Due.{improper-rule}
 use Rattle.improper.specs.Post.{Passes, Searched}
 
--- how many names are not found yet
-pub left : Words → ℕ
-left w = free 256 (λ n. w ∋ n)
-
 abbrev passOf : (s : List ℕ) → Words → Words × Bool
-passOf s w = passTo Words _∋_ add (looksOf s (typesOf s)) 256 256 w
+passOf s w = passTo (looksOf s (typesOf s)) 256 w
 
 abbrev searchFrom : (s : List ℕ) → (f : ℕ) → Words → Words
-searchFrom s f w = search Words _∋_ add (looksOf s (typesOf s)) 256 f w
+searchFrom s f w = search (looksOf s (typesOf s)) f w
 
 -- after some passes, of which the last found a name or not
 pub record Searching (s : List ℕ) (w : Words) (new : Bool) : Type 0 where
@@ -36,36 +31,35 @@ pub record Searching (s : List ℕ) (w : Words) (new : Bool) : Type 0 where
   pub done : new ≡ false → w ≡ improperOf s (typesOf s)
 
 pub searching-start : (s : List ℕ) (w : Words) → w ≡ empty → Searching s w true
-unfolding improperOf left
+unfolding improperOf
 searching-start s w e = rw e (record { size = refl; going = λ _. (257, omega (arith, free-le 256 (λ n. empty ∋ n)), refl); done = λ b. never (sym b) })
 
 module _ (s : List ℕ) (w : Words) (long : length w ≡ 4) where
-  pass-looked : Looked Words _∋_ add (looksOf s (typesOf s)) 256 (λ v. length v ≡ 4) (λ v i o _. length-add v i ∙ o) has-add w (passOf s w .0) (passOf s w .1)
-  pass-looked = passed Words _∋_ add (looksOf s (typesOf s)) 256 (λ v. length v ≡ 4) (λ v i o _. length-add v i ∙ o) has-add 256 (omega arith) w long
+  pass : Passed (looksOf s (typesOf s)) w (passOf s w .0) (passOf s w .1)
+  pass = passed (looksOf s (typesOf s)) 256 (omega arith) w long
 
   -- a pass that found a name, and one that found none
   pass-on : (f : ℕ) → left w < f → improperOf s (typesOf s) ≡ searchFrom s f w → passOf s w .1 ≡ true
       → (g : ℕ) × (left (passOf s w .0) < g) × (improperOf s (typesOf s) ≡ searchFrom s g (passOf s w .0))
-  unfolding search left
+  unfolding search
   pass-on zero l e q = absurd (omega arith)
-  pass-on (suc f) l e q = (f, omega (arith, pass-looked .fewer q), e ∙ rw (search, q))
+  pass-on (suc f) l e q = (f, omega (arith, pass .fewer q), e ∙ rw (search, q))
 
   pass-done : (f : ℕ) → left w < f → improperOf s (typesOf s) ≡ searchFrom s f w → passOf s w .1 ≡ false → passOf s w .0 ≡ improperOf s (typesOf s)
-  unfolding search left
+  unfolding search
   pass-done zero l e q = absurd (omega arith)
   pass-done (suc f) l e q = sym (e ∙ rw (search, q))
 
   falls : (b : Bool) → passOf s w .1 ≡ b → left (passOf s w .0) + bit b < left w + 1
-  unfolding left
-  falls true q = omega (arith, pass-looked .fewer q)
-  falls false q = omega (arith, pass-looked .less)
+  falls true q = omega (arith, pass .fewer q)
+  falls false q = omega (arith, pass .less)
 
 module _ (s : List ℕ) (w : Words) (new : Bool) (h : Searching s w new) (yes : new ≡ true) (w′ : Words) (new′ : Bool) (p : Passes s w 256 w′ new′) where
   pub searching-on : Searching s w′ new′
   searching-on =
       let r = h .going yes in
       record {
-        size = ap length (p .names) ∙ pass-looked s w (h .size) .okay;
+        size = ap length (p .names) ∙ pass s w (h .size) .four;
         going = λ b. rw (p .names) (pass-on s w (h .size) (r .0) (r .1) (r .2) (sym (p .found) ∙ b));
         done = λ b. p .names ∙ pass-done s w (h .size) (r .0) (r .1) (r .2) (sym (p .found) ∙ b);
       }

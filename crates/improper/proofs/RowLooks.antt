@@ -17,7 +17,8 @@ use Rattle.rules.specs.Improper.{Look, definite, lookName, lookRow}
 use Rattle.laws.proofs.Tests.{or-is}
 use Rattle.laws.proofs.Counts.{Eq?, same, other, eq?}
 use Rattle.laws.proofs.Accepted.{fits}
-use Rattle.laws.proofs.Fuel.{isThrough, lookBy, look-is}
+use Rattle.laws.specs.Kinds.{isThrough}
+use Rattle.laws.proofs.Fuel.{lookBy, look-is}
 use Rattle.laws.proofs.Accepted.Sheet.{sheet-of}
 use Rattle.improper.specs.Looks.{lookOf, improperKind, Table}
 

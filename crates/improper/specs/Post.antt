@@ -5,7 +5,7 @@ use mathlib.Core.Path.{_≡_}
 use mathlib.Core.Bool.{Bool}
 use mathlib.Core.List.{List}
 use Rattle.rules.specs.Format.{Accepted}
-use Rattle.rules.specs.Names.{Words, _∋_, add}
+use Rattle.rules.specs.Names.{Words}
 use Rattle.rules.specs.View.{rows}
 use Rattle.rules.specs.Types.{typesOf}
 use Rattle.rules.specs.Improper.{looksOf, passTo, improperOf}
@@ -31,5 +31,5 @@ pub record Looked (s looks l : List ℕ) : Type 0 where
 
 -- the names below k are passed: what that makes of the set, and whether one was found
 pub record Passes (s : List ℕ) (before : Words) (k : ℕ) (after : Words) (new : Bool) : Type 0 where
-  pub names : after ≡ passTo Words _∋_ add (looksOf s (typesOf s)) 256 k before .0
-  pub found : new ≡ passTo Words _∋_ add (looksOf s (typesOf s)) 256 k before .1
+  pub names : after ≡ passTo (looksOf s (typesOf s)) k before .0
+  pub found : new ≡ passTo (looksOf s (typesOf s)) k before .1

@@ -3,11 +3,10 @@ ghost use mathlib.Core.Path.{_≡_};
 ghost use mathlib.Core.List.{List};
 ghost use Prim.Native.Nat.{ℕ, _<_};
 ghost use Rattle.rules.specs.Format.{Accepted};
-ghost use Rattle.rules.specs.Names.{Words, _∋_, add};
 ghost use Rattle.rules.specs.View.{rows};
 ghost use Rattle.rules.specs.Types.{Types, typesOf};
-ghost use Rattle.rules.specs.Improper.{definite, lookName, lookRow, looksOf, hits};
-ghost use Rattle.laws.proofs.Fuel.{isThrough};
+ghost use Rattle.rules.specs.Improper.{definite, lookName, lookRow, hits};
+ghost use Rattle.laws.specs.Kinds.{isThrough};
 ghost use Rattle.improper.specs.Looks.{lookOf, improperKind, Sets, Table};
 ghost use Rattle.improper.specs.Post.{Collected, Looked, Passes, Searched};
 use rules::NameSet;
@@ -114,7 +113,7 @@ fn look_rows(s: &[u8], sets: &[u64; 28]) -> [u16; 1024]
 
 // Whether a field makes its struct improper, by the improper names so far.
 fn hits(names: NameSet, look: u16) -> bool
-    ensures { λ r. ⌜ ((s : List ℕ) → r ≡ hits Words _∋_ add (looksOf s (typesOf s)) 256 (names .words) (lookOf look)) ⌝ }
+    ensures { λ r. ⌜ r ≡ hits (names .words) (lookOf look) ⌝ }
 {
     if look < 256 {
         return names::contains(names, look);

@@ -1,4 +1,4 @@
--- How often a number stands in a list, where it first stands, and what a store does to the count.
+-- How often a number stands in a list, where it first stands; how many are left, and what a store does to the count.
 -- Assumes nothing.
 use mathlib.Core.Path.{_≡_, refl, sym, ap, _∙_, subst}
 use mathlib.Core.Logic.{_≢_}
@@ -10,6 +10,7 @@ use lib.Dec.{T, eqb, eqb→eq, eqb-refl}
 use lib.ListN.{length, getD, set, replicate}
 use Rattle.rules.specs.Diagnostics.{bit}
 use Rattle.rules.specs.Count.{count, place}
+use Rattle.laws.specs.Left.{fresh, free}
 
 -- the test, decided, with its equation
 pub data Eq? (x y : ℕ) : Type 0 where
@@ -89,12 +90,6 @@ place-get (y ∷ l) x h = go (eq? x y) (place-get l x)
     go (same e p) r = rw e (sym p)
     go (other e p) r = rw e (r (let z : 0 < 0 + count x l = rw e at h in omega arith))
 
--- how many items are not marked yet
-abbrev pub fresh : List ℕ → ℕ
-fresh [] = 0
-fresh (zero ∷ m) = suc (fresh m)
-fresh (suc x ∷ m) = fresh m
-
 -- to mark one takes it from the count
 pub fresh-set : (l : List ℕ) (i v : ℕ) → i < length l → getD l i 0 ≡ 0 → suc (fresh (set l i (suc v))) ≡ fresh l
 fresh-set [] i v h e = omega arith
@@ -114,10 +109,7 @@ pub fresh-zeros : (k : ℕ) → fresh (replicate k 0) ≡ k
 fresh-zeros zero = refl
 fresh-zeros (suc k) = ap suc (fresh-zeros k)
 
--- how many numbers below k a test refuses
-unfoldable pub free : ℕ → (ℕ → Bool) → ℕ
-free zero p = 0
-free (suc k) p = bit (not (p k)) + free k p
+-- ## The numbers that a test refuses
 
 pub free-same : (k : ℕ) (p q : ℕ → Bool) → ((x : ℕ) → x < k → q x ≡ p x) → free k q ≡ free k p
 unfolding free

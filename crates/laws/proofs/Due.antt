@@ -6,14 +6,14 @@ use mathlib.Core.Logic.{_↔_}
 use mathlib.Core.List.{List}
 use lib.ListN.{length}
 use Rattle.rules.specs.declared.Step.{Step}
-use Rattle.rules.specs.declared.Step.the-variants.{Next, Refused}
+use Rattle.rules.specs.declared.Step.the-variants.{Next}
 use Rattle.rules.specs.declared.Diagnostic.{Diagnostic}
 use Rattle.rules.specs.Count.{count}
 use Rattle.rules.specs.Types.{typesOf}
 use Rattle.rules.specs.Order.{walkOf}
 use Rattle.rules.specs.Improper.{improperOf}
 use Rattle.rules.specs.declared.Answer.{Answer}
-use Rattle.rules.specs.Answer.{Outcome, places, accepted, refused, setsOf, readWith, filled, cleared, call}
+use Rattle.rules.specs.Answer.{Outcome, places, accepted, setsOf, readWith, call}
 use Rattle.rules.specs.Report.{report, reportOf}
 use Rattle.rules.specs.Rule3.{Some, Cycle, OrderRule, ImproperRule, Rule3, Tiers3, Due}
 use Rattle.laws.proofs.LastItems.{Fits}
@@ -21,6 +21,7 @@ use Rattle.laws.proofs.Accepted.{fits, accepted-is}
 use Rattle.laws.proofs.Rule3Order.{order-is, once-is, none-is, after-is, tiers-are}
 use Rattle.laws.proofs.Rule3Cyclic.{walk-cyclic-is, cyclic-is}
 use Rattle.laws.proofs.Rule3Improper.{improper-is}
+use Rattle.laws.proofs.Outcomes.{outcome, call-is, passed}
 
 module _ (s : List ℕ) (sound : Fits s) where
   unfoldable pub answered : Answer
@@ -56,22 +57,13 @@ module _ (s : List ℕ) (sound : Fits s) where
   tiers3 = tiers-are s sound
 
   pub answer-is : (scratch : List ℕ) (list : List Diagnostic) (e : ℕ) → readWith (length scratch) s ≡ Next e → call s scratch list .answer ≡ answered
-  unfolding call answered
-  answer-is scratch list e h =
-      ap
-      (λ (x : Step).
-      (elim x as (λ _. Outcome) [
-        | Refused why at ↦ record { answer = refused why at; list = list; scratch = scratch }
-        | Next _ ↦ record { answer = accepted s (typesOf s) (walkOf s (typesOf s)) full; list = filled list full; scratch = cleared scratch }
-      ]) .answer)
-      h
-    where
-      full : List Diagnostic
-      full = reportOf s (typesOf s) (walkOf s (typesOf s))
+  unfolding outcome answered
+  answer-is scratch list e h = ap (λ (o : Outcome). o .answer) (call-is s scratch list) ∙ ap (λ (v : Step). outcome s scratch list v .answer) h
 
 -- what is due
 pub due : Due
-due s scratch list e h =
-    let f = fits s (accepted-is (length scratch) s e h) in
-    let a = answer-is s f scratch list e h in
+due s scratch list h =
+    let (e, p) = passed s scratch list h in
+    let f = fits s (accepted-is (length scratch) s e p) in
+    let a = answer-is s f scratch list e p in
     (rw a (rule3 s f), rw a (tiers3 s f))

@@ -12,10 +12,11 @@ use lib.Seq.{getD-at}
 use borrow.Author.Tests.{eqb-true}
 use Rattle.rules.specs.Base.{if_then_else_, some, anyOf}
 use Rattle.rules.specs.Format.{Accepted}
-use Rattle.rules.specs.View.{Ident, RustBox, RustVec, CxxVector, Ref, Ptr, Str, SliceRef, Array, Fn, Void, rows, kind, is, rowName, inner, shown}
+use Rattle.rules.specs.View.{Ident, RustBox, RustVec, CxxVector, Str, SliceRef, Array, Fn, Void, rows, kind, is, rowName, inner, shown}
 use Rattle.rules.specs.Types.{Types}
 use Rattle.rules.specs.Improper.{Look, definite, lookName, lookRow}
 use Rattle.rules.specs.Check.{is-unsized-ident, is-unsized-within, is-unsized, is-lifetime-mut, find-lifetime-mut}
+use Rattle.laws.specs.Kinds.{isThrough}
 use Rattle.laws.specs.Reach.{In}
 use Rattle.laws.specs.LifetimeMut.{mutEntry, mutTable}
 use Rattle.laws.proofs.Counts.{Eq?, same, other, eq?}
@@ -25,7 +26,7 @@ use Rattle.laws.proofs.Accepted.Rows.{hasInner, row-of}
 use Rattle.laws.proofs.Collect.Shown.{shown-falls}
 
 -- what looks at smaller rows only is the same for any fuel above the row
-fuel-same : {A : Type 0} (F : ℕ → ℕ → A) (T : ℕ) → ((f g r : ℕ) → r < T → ((x : ℕ) → x < r → F f x ≡ F g x) → F (suc f) r ≡ F (suc g) r)
+pub fuel-same : {A : Type 0} (F : ℕ → ℕ → A) (T : ℕ) → ((f g r : ℕ) → r < T → ((x : ℕ) → x < r → F f x ≡ F g x) → F (suc f) r ≡ F (suc g) r)
     → (f g r : ℕ) → r < f → r < g → r < T → F f r ≡ F g r
 fuel-same F T step zero g r l m t = absurd (omega arith)
 fuel-same F T step (suc f) zero r l m t = absurd (omega arith)
@@ -37,10 +38,6 @@ any-same p q [] h = refl
 any-same p q (x ∷ l) h =
     ap (λ (b : Bool). elim b as (λ _. Bool) [ true ↦ true | false ↦ anyOf p l ]) (h x (in-head x l))
     ∙ ap (λ (c : Bool). elim (q x) as (λ _. Bool) [ true ↦ true | false ↦ c ]) (any-same p q l (λ y i. h y (in-tail y x l i)))
-
--- Ref, Ptr and Array are looked through
-abbrev pub isThrough : (kind : ℕ) → Bool
-isThrough k = eqb k Ref || eqb k Ptr || eqb k Array
 
 -- one step of each, by what it gives of smaller rows
 module _ (s : List ℕ) (t : Types) where

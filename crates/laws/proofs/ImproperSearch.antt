@@ -1,197 +1,177 @@
--- The search for improper structs, pass after pass until one finds none, over any kind of set of names, finds exactly the names with an improper chain.
+-- The search for improper structs finds exactly the names with an improper chain. A pass adds only such names, and fewer are left where it adds one; a pass that
+-- adds none leaves nothing to find; so the passes end, and at the end every chain is found from its last field backwards.
 -- Assumes nothing.
-use mathlib.Core.Path.{_≡_, refl, sym, _∙_, subst}
+use mathlib.Core.Path.{_≡_, refl, sym, ap, _∙_, subst}
 use mathlib.Core.Logic.{_≢_, _⊎_, inl, inr, _↔_}
-use mathlib.Core.Bool.{Bool, true, false, _||_}
+use mathlib.Core.Bool.{Bool, true, false, not, _||_}
 use Prim.Native.Nat.{ℕ, zero, suc, _≤_, _<_}
 use native.Mathlib.Omega.{arith}
 use lib.Dec.{T, eqb}
-use Rattle.laws.proofs.Counts.{Eq?, same, other, eq?, eqb-same, free, free-one, free-le}
-use Rattle.rules.specs.Improper.{Look, fine, bad, to, Looks}
-use Rattle.rules.specs.Improper as I
-use Rattle.laws.proofs.Tests.{or-cases, or-left, or-right}
+use lib.ListN.{length}
+use borrow.Author.Tests.{not-true}
+use Rattle.rules.specs.Names.{Words, empty, add, _∋_}
+use Rattle.rules.specs.Improper.{Look, fine, bad, to, Looks, hits, found, isNew, passTo, search}
+use Rattle.laws.specs.Left.{free}
+use Rattle.laws.proofs.Counts.{Eq?, same, other, eq?, eqb-same, free-one, free-le}
+use Rattle.laws.proofs.Tests.{never, or-cases, or-left, or-right, both-are}
+use Rattle.laws.proofs.NameSets.{has-add, length-add, has-empty}
 
 -- a chain of fields, the first of the name's last struct, that ends in an improper one
 pub data Improper (g : Looks) : ℕ → Type 0 where
   here : {i : ℕ} (k : ℕ) → k < g .fields i → g .look i k ≡ bad → Improper g i
   there : {i j : ℕ} (k : ℕ) → k < g .fields i → g .look i k ≡ to j → Improper g j → Improper g i
 
-module _ (S : Type 0) (has : S → ℕ → Bool) (add : S → ℕ → S) (g : Looks) (n : ℕ) where
-  abbrev pub hits : S → Look → Bool
-  hits = I.hits S has add g n
+-- how many names are not in the set
+abbrev pub left : Words → ℕ
+left w = free 256 (λ n. w ∋ n)
 
-  abbrev pub found : S → (i k : ℕ) → Bool
-  found = I.found S has add g n
+-- a turn of a pass
+abbrev turn : (new : Bool) → Words × Bool → (n : ℕ) → Words × Bool
+turn b r n = elim b [ true ↦ (add (r .0) n, true) | false ↦ r ]
 
-  abbrev pub attempt : Bool → Bool → S → ℕ → S × Bool
-  attempt = I.attempt S has add g n
+module _ (g : Looks) where
+  -- every name of the set has an improper chain
+  abbrev pub Sound : Words → Type 0
+  Sound w = (x : ℕ) → T (w ∋ x) → Improper g x
 
-  abbrev pub look : S → ℕ → S × Bool
-  look = I.look S has add g n
+  -- ## The fields of one name
 
-  abbrev pub passTo : (k : ℕ) → S → S × Bool
-  passTo = I.passTo S has add g n
+  found-at : (w : Words) (i k : ℕ) → T (found g w i k) → (x : ℕ) × (x < k) × T (hits w (g .look i x))
+  unfolding found
+  found-at w i zero t = absurd t
+  found-at w i (suc k) t = go (or-cases (found g w i k) (hits w (g .look i k)) t) (found-at w i k)
+    where
+      go : T (found g w i k) ⊎ T (hits w (g .look i k)) → (T (found g w i k) → (x : ℕ) × (x < k) × T (hits w (g .look i x)))
+          → (x : ℕ) × (x < suc k) × T (hits w (g .look i x))
+      go (inl u) ih = let r = ih u in let l : r .0 < k = r .1 in (r .0, omega arith, r .2)
+      go (inr u) ih = (k, omega arith, u)
 
-  abbrev pub search : (f : ℕ) → S → S
-  search = I.search S has add g n
+  at-found : (w : Words) (i k x : ℕ) → x < k → T (hits w (g .look i x)) → T (found g w i k)
+  unfolding found
+  at-found w i zero x l t = absurd (omega arith)
+  at-found w i (suc k) x l t = go (eq? x k) (at-found w i k x)
+    where
+      go : Eq? x k → (x < k → T (hits w (g .look i x)) → T (found g w i k)) → T (found g w i k || hits w (g .look i k))
+      go (same _ e) ih = or-right (found g w i k) (hits w (g .look i k)) (subst (λ (y : ℕ). T (hits w (g .look i y))) e t)
+      go (other _ e) ih = or-left (found g w i k) (hits w (g .look i k)) (ih (omega arith) t)
 
-  module _ (ok : S → Type 0) (ok-add : (s : S) (i : ℕ) → ok s → i < n → ok (add s i)) (has-add : (s : S) (i x : ℕ) → ok s → i < n → has (add s i) x ≡ (eqb x i || has s x)) where
-    pub Sound : S → Type 0
-    Sound s = (x : ℕ) → T (has s x) → Improper g x
+  found-bad : (w : Words) (i : ℕ) → found g w i (g .fields i) ≡ true → Sound w → Improper g i
+  found-bad w i h q = let r = found-at w i (g .fields i) (subst T (sym h) tt) in go (r .0) (r .1) (g .look i (r .0)) refl (r .2)
+    where
+      go : (x : ℕ) → x < g .fields i → (u : Look) → g .look i x ≡ u → T (hits w u) → Improper g i
+      go x m fine e t = absurd t
+      go x m bad e t = here x m e
+      go x m (to j) e t = there x m e (q j t)
 
-    found-at : (s : S) (i k : ℕ) → T (found s i k) → (x : ℕ) × (x < k) × T (hits s (g .look i x))
-    unfolding I.found
-    found-at s i zero t = absurd t
-    found-at s i (suc k) t = go (or-cases (found s i k) (hits s (g .look i k)) t) (found-at s i k)
-      where
-        go : T (found s i k) ⊎ T (hits s (g .look i k)) → (T (found s i k) → (x : ℕ) × (x < k) × T (hits s (g .look i x)))
-            → (x : ℕ) × (x < suc k) × T (hits s (g .look i x))
-        go (inl u) ih = let r = ih u in let l : r .0 < k = r .1 in (r .0, omega arith, r .2)
-        go (inr u) ih = (k, omega arith, u)
+  -- ## A pass
 
-    at-found : (s : S) (i k x : ℕ) → x < k → T (hits s (g .look i x)) → T (found s i k)
-    unfolding I.found
-    at-found s i zero x l t = absurd (omega arith)
-    at-found s i (suc k) x l t = go (eq? x k) (at-found s i k x)
-      where
-        go : Eq? x k → (x < k → T (hits s (g .look i x)) → T (found s i k)) → T (found s i k || hits s (g .look i k))
-        go (same _ e) ih = or-right (found s i k) (hits s (g .look i k)) (subst (λ (y : ℕ). T (hits s (g .look i y))) e t)
-        go (other _ e) ih = or-left (found s i k) (hits s (g .look i k)) (ih (omega arith) t)
+  -- what a part of a pass makes of a set
+  pub record Passed (w v : Words) (new : Bool) : Type 0 where
+    pub sound : Sound w → Sound v
+    pub less : left v ≤ left w
+    pub fewer : new ≡ true → left v < left w
+    pub idle : new ≡ false → v ≡ w
+    pub four : length v ≡ 4
 
-    -- what one look, or a pass, does
-    pub record Looked (s t : S) (new : Bool) : Type 0 where
-      pub sound : Sound s → Sound t
-      pub less : free n (has t) ≤ free n (has s)
-      pub fewer : new ≡ true → free n (has t) < free n (has s)
-      pub idle : new ≡ false → t ≡ s
-      pub okay : ok t
+  -- one name enters
+  entered : {w v : Words} {new : Bool} (i : ℕ) → i < 256 → isNew g v i ≡ true → Passed w v new → Passed w (add v i) true
+  unfolding isNew
+  entered {v = v} i l e p =
+      let b = both-are (not (v ∋ i)) (found g v i (g .fields i)) e in
+      let has : (x : ℕ) → add v i ∋ x ≡ (eqb x i || v ∋ x) = λ x. has-add v i x (p .four) l in
+      let absent : v ∋ i ≡ false = not-true (v ∋ i) (b .0) in
+      let h : suc (left (add v i)) ≡ left v =
+      free-one 256 i (λ n. v ∋ n) (λ n. add v i ∋ n) (λ x ne. apart x ne (eq? x i) (has x)) absent (rw (has i, eqb-same i)) l in
+      record {
+        sound = λ q x. at x (eq? x i) (has x) (found-bad v i (b .1) (p .sound q)) (p .sound q);
+        less = omega (arith, p .less);
+        fewer = λ _. omega (arith, p .less);
+        idle = λ z. never (sym z);
+        four = length-add v i ∙ p .four;
+      }
+    where
+      apart : (x : ℕ) → x ≢ i → Eq? x i → add v i ∋ x ≡ (eqb x i || v ∋ x) → add v i ∋ x ≡ v ∋ x
+      apart x ne (same _ q) h = absurd (ne q)
+      apart x ne (other d _) h = h ∙ ap (λ c. c || v ∋ x) d
 
-    looked : (s : S) (i : ℕ) → ok s → i < n → Looked s (look s i .0) (look s i .1)
-    unfolding Sound
-    looked s i o l = go (has s i) (found s i (g .fields i)) refl refl
-      where
-        nothing : (b : Bool) → b ≡ false → Looked s s b
-        nothing b e =
-            record {
-              sound = λ q. q;
-              less = omega arith;
-              fewer = λ e′. let z : _≡_ {A = Bool} true false = cc in let w : _≡_ {A = ℕ} 0 1 = cc in absurd (omega arith);
-              idle = λ _. refl;
-              okay = o;
-            }
+      at : (x : ℕ) → Eq? x i → add v i ∋ x ≡ (eqb x i || v ∋ x) → Improper g i → Sound v → T (add v i ∋ x) → Improper g x
+      at x (same _ q) h r s t = subst (λ (y : ℕ). Improper g y) (sym q) r
+      at x (other d q) h r s t = s x (subst T (apart x q (other d q) h) t)
 
-        of-look : (x : ℕ) → x < g .fields i → (u : Look) → g .look i x ≡ u → T (hits s u) → Sound s → Improper g i
-        of-look x m fine e t q = absurd t
-        of-look x m bad e t q = here x m e
-        of-look x m (to j) e t q = there x m e (q j t)
+  pub passed : (k : ℕ) → k ≤ 256 → (w : Words) → length w ≡ 4 → Passed w (passTo g k w .0) (passTo g k w .1)
+  unfolding passTo
+  passed zero l w o = record { sound = λ q. q; less = omega arith; fewer = λ z. never z; idle = λ _. refl; four = o }
+  passed (suc k) l w o = go (isNew g (passTo g k w .0) k) refl (passed k (omega arith) w o)
+    where
+      r : Words × Bool
+      r = passTo g k w
 
-        is-bad : (x : ℕ) × (x < g .fields i) × T (hits s (g .look i x)) → Sound s → Improper g i
-        is-bad r q = of-look (r .0) (r .1) (g .look i (r .0)) refl (r .2) q
+      go : (b : Bool) → isNew g (r .0) k ≡ b → Passed w (r .0) (r .1)
+          → Passed w (turn b r k .0) (turn b r k .1)
+      go true e p = entered k l e p
+      go false e p = p
 
-        has-other : (x : ℕ) → x ≢ i → has (add s i) x ≡ has s x
-        has-other x ne = at (eq? x i)
-          where
-            at : Eq? x i → has (add s i) x ≡ has s x
-            at (same _ p) = absurd (ne p)
-            at (other e _) = rw (has-add s i x o l, e)
+  -- ## When a pass finds none
 
-        at-sound : (found s i (g .fields i)) ≡ true → Sound s → (x : ℕ) → Eq? x i → T (has (add s i) x) → Improper g x
-        at-sound h q x (same _ p) t = subst (λ (y : ℕ). Improper g y) (sym p) (is-bad (found-at s i (g .fields i) (subst T (sym h) tt)) q)
-        at-sound h q x (other _ p) t = q x (subst T (has-other x p) t)
+  -- nothing is left to find
+  Closed : Words → Type 0
+  Closed w = (x : ℕ) → x < 256 → w ∋ x ≡ false → found g w x (g .fields x) ≡ false
 
-        go : (b h : Bool) → has s i ≡ b → (found s i (g .fields i)) ≡ h → Looked s (attempt b h s i .0) (attempt b h s i .1)
-        go true h e e′ = nothing false refl
-        go false true e e′ =
-            let q : suc (free n (has (add s i))) ≡ free n (has s) = free-one n i (has s) (has (add s i)) has-other e (rw (has-add s i i o l, eqb-same i)) l in
-            record {
-              sound = λ q′ x. at-sound e′ q′ x (eq? x i);
-              less = omega arith;
-              fewer = λ _. omega arith;
-              idle = λ b. let w : _≡_ {A = ℕ} 0 1 = cc in absurd (omega arith);
-              okay = ok-add s i o l;
-            }
-        go false false e e′ = nothing false refl
+  quiet : (k : ℕ) → k ≤ 256 → (w : Words) → length w ≡ 4 → passTo g k w .1 ≡ false → (x : ℕ) → x < k → w ∋ x ≡ false → found g w x (g .fields x) ≡ false
+  unfolding passTo isNew
+  quiet zero l w o e x m h = absurd (omega arith)
+  quiet (suc k) l w o e x m h = go (isNew g (passTo g k w .0) k) refl e (quiet k (omega arith) w o)
+    where
+      r : Words × Bool
+      r = passTo g k w
 
-    pub passed : (k : ℕ) → k ≤ n → (s : S) → ok s → Looked s (passTo k s .0) (passTo k s .1)
-    unfolding I.passTo
-    passed zero l s o =
-        record { sound = λ q. q; less = omega arith; fewer = λ b. let w : _≡_ {A = ℕ} 0 1 = cc in absurd (omega arith); idle = λ _. refl; okay = o }
-    passed (suc k) l s o =
-        let p = passed k (omega arith) s o in
-        join (passTo k s .0) (look (passTo k s .0) k .0) (passTo k s .1) (look (passTo k s .0) k .1) p (looked (passTo k s .0) k (p .okay) l)
-      where
-        join : (t u : S) (b c : Bool) → Looked s t b → Looked t u c → Looked s u (b || c)
-        join t u true c p q =
-            record {
-              sound = λ h. q .sound (p .sound h);
-              less = omega (arith, p .less, q .less);
-              fewer = λ _. omega (arith, p .fewer refl, q .less);
-              idle = λ b. let w : _≡_ {A = ℕ} 0 1 = cc in absurd (omega arith);
-              okay = q .okay;
-            }
-        join t u false c p q =
-            record {
-              sound = λ h. q .sound (p .sound h);
-              less = omega (arith, p .less, q .less);
-              fewer = λ e. omega (arith, p .less, q .fewer e);
-              idle = λ e. q .idle e ∙ p .idle refl;
-              okay = q .okay;
-            }
+      absent : isNew g w k ≡ false → w ∋ k ≡ false → found g w k (g .fields k) ≡ false
+      absent q z = rw z at q
 
-    -- nothing is left to find
-    Closed : S → Type 0
-    Closed s = (x : ℕ) → x < n → has s x ≡ false → (found s x (g .fields x)) ≡ false
+      go : (b : Bool) → isNew g (r .0) k ≡ b → turn b r k .1 ≡ false
+          → (r .1 ≡ false → (y : ℕ) → y < k → w ∋ y ≡ false → found g w y (g .fields y) ≡ false)
+          → found g w x (g .fields x) ≡ false
+      go true q z ih = never (sym z)
+      go false q z ih = by (eq? x k)
+        where
+          by : Eq? x k → found g w x (g .fields x) ≡ false
+          by (other _ d) = ih z x (omega arith) h
+          by (same _ d) = rw d (absent (ap (λ v. isNew g v k) (sym (passed k (omega arith) w o .idle z)) ∙ q) (ap (λ y. w ∋ y) (sym d) ∙ h))
 
-    quiet : (k : ℕ) → k ≤ n → (s : S) → ok s → passTo k s .1 ≡ false → (x : ℕ) → x < k → has s x ≡ false → (found s x (g .fields x)) ≡ false
-    unfolding I.passTo
-    quiet zero l s o e x m h = absurd (omega arith)
-    quiet (suc k) l s o e x m h = go (passTo k s .0) (passTo k s .1) (passed k (omega arith) s o) (quiet k (omega arith) s o) e (eq? x k)
-      where
-        last : (b c : Bool) → has s k ≡ b → (found s k (g .fields k)) ≡ c → b ≡ false → attempt b c s k .1 ≡ false → c ≡ false
-        last true c _ _ b0 e0 = let w : _≡_ {A = ℕ} 0 1 = cc in absurd (omega arith)
-        last false true _ _ b0 e0 = let w : _≡_ {A = ℕ} 0 1 = cc in absurd (omega arith)
-        last false false _ _ b0 e0 = refl
+  complete : (closed : (i j k : ℕ) → k < g .fields i → g .look i k ≡ to j → j < 256) (w : Words) → Closed w → {x : ℕ} → Improper g x → x < 256 → T (w ∋ x)
+  unfolding Closed
+  complete closed w c {x} (here k m e) l = go (w ∋ x) refl
+    where
+      go : (h : Bool) → w ∋ x ≡ h → T h
+      go true q = tt
+      go false q = subst T (c x l q) (at-found w x (g .fields x) k m (subst (λ (u : Look). T (hits w u)) (sym e) tt))
+  complete closed w c {x} (there {j = j} k m e r) l = go (w ∋ x) refl (complete closed w c r (closed x j k m e))
+    where
+      go : (h : Bool) → w ∋ x ≡ h → T (w ∋ j) → T h
+      go true q t = tt
+      go false q t = subst T (c x l q) (at-found w x (g .fields x) k m (subst (λ (u : Look). T (hits w u)) (sym e) t))
 
-        go : (t : S) (b : Bool) → Looked s t b → (b ≡ false → (y : ℕ) → y < k → has s y ≡ false → (found s y (g .fields y)) ≡ false)
-            → (b || look t k .1) ≡ false → Eq? x k → (found s x (g .fields x)) ≡ false
-        go t true p ih e′ _ = let w : _≡_ {A = ℕ} 0 1 = cc in absurd (omega arith)
-        go t false p ih e′ (other _ q) = ih refl x (omega arith) h
-        go t false p ih e′ (same _ q) =
-            rw q (last (has s k) (found s k (g .fields k)) refl refl (subst (λ (y : ℕ). has s y ≡ false) q h) (subst (λ (u : S). look u k .1 ≡ false) (p .idle refl) e′))
+  -- ## The search
 
-    complete : (closed : (i j k : ℕ) → k < g .fields i → g .look i k ≡ to j → j < n) (s : S) → Closed s → {x : ℕ} → Improper g x → x < n → T (has s x)
-    unfolding Closed
-    complete closed s c {x} (here k m e) l = go (has s x) refl
-      where
-        go : (h : Bool) → has s x ≡ h → T h
-        go true q = tt
-        go false q = subst T (c x l q) (at-found s x (g .fields x) k m (subst (λ (u : Look). T (hits s u)) (sym e) tt))
-    complete closed s c {x} (there {j = j} k m e r) l = go (has s x) refl (complete closed s c r (closed x j k m e))
-      where
-        go : (h : Bool) → has s x ≡ h → T (has s j) → T h
-        go true q t = tt
-        go false q t = subst T (c x l q) (at-found s x (g .fields x) k m (subst (λ (u : Look). T (hits s u)) (sym e) t))
+  searched : (f : ℕ) (w : Words) → length w ≡ 4 → left w < f → Sound w → Sound (search g f w) × Closed (search g f w)
+  unfolding search Closed
+  searched zero w o l q = absurd (omega arith)
+  searched (suc f) w o l q = go (r .1) refl (λ m. searched f (r .0) (p .four) m (p .sound q))
+    where
+      r : Words × Bool
+      r = passTo g 256 w
 
-    searched : (f : ℕ) (s : S) → ok s → free n (has s) < f → Sound s → Sound (search f s) × Closed (search f s)
-    unfolding I.search Closed
-    searched zero s o l q = absurd (omega arith)
-    searched (suc f) s o l q = go (passTo n s .1) refl (λ l′. searched f (passTo n s .0) (p .okay) l′ (p .sound q))
-      where
-        p : Looked s (passTo n s .0) (passTo n s .1)
-        p = passed n (omega arith) s o
+      p : Passed w (r .0) (r .1)
+      p = passed 256 (omega arith) w o
 
-        End : S → Type 0
-        End t = Sound t × Closed t
+      End : Words → Type 0
+      End v = Sound v × Closed v
 
-        go : (b : Bool) → passTo n s .1 ≡ b → (free n (has (passTo n s .0)) < f → End (search f (passTo n s .0)))
-            → End (elim b as (λ _. S) [ true ↦ search f (passTo n s .0) | false ↦ passTo n s .0 ])
-        go true e ih = ih (omega (arith, p .fewer e))
-        go false e ih = (p .sound q, subst Closed (sym (p .idle e)) (quiet n (omega arith) s o e))
+      go : (b : Bool) → r .1 ≡ b → (left (r .0) < f → End (search g f (r .0))) → End (elim b as (λ _. Words) [ true ↦ search g f (r .0) | false ↦ r .0 ])
+      go true e ih = ih (omega (arith, p .fewer e))
+      go false e ih = (p .sound q, subst Closed (sym (p .idle e)) (quiet 256 (omega arith) w o e))
 
-    -- T4: the search marks the items from which a chain reaches a bad one, and no others
-    pub improper-found : (closed : (i j k : ℕ) → k < g .fields i → g .look i k ≡ to j → j < n) (empty : S) → ok empty → ((x : ℕ) → has empty x ≡ false)
-        → (x : ℕ) → x < n → T (has (search (suc n) empty) x) ↔ Improper g x
-    unfolding Sound
-    improper-found closed empty o e x l =
-        let r = searched (suc n) empty o (omega (arith, free-le n (has empty))) (λ y t. absurd (subst T (e y) t)) in
-        (r .0 x, λ p. complete closed (search (suc n) empty) (r .1) p l)
+  pub improper-found : ((i j k : ℕ) → k < g .fields i → g .look i k ≡ to j → j < 256) → (x : ℕ) → x < 256 → T (search g 257 empty ∋ x) ↔ Improper g x
+  improper-found closed x l =
+      let r = searched 257 empty refl (omega (arith, free-le 256 (λ n. empty ∋ n))) (λ y t. absurd (subst T (has-empty y) t)) in
+      (r .0 x, λ p. complete closed (search g 257 empty) (r .1) p l)

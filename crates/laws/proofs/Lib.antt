@@ -20,8 +20,8 @@ pub mod TierTable
 pub mod TierPass
 pub mod TierRule
 -- sets of names
-pub mod ImproperSearch
 pub mod NameSets
+pub mod ImproperSearch
 pub mod Sets
 pub mod SetMembers
 -- sheets
@@ -29,6 +29,8 @@ pub mod LastItems
 pub mod Accepted
 pub mod Collect
 pub mod Fuel
+pub mod RowBytes
+pub mod RowTrees
 -- the report
 pub mod Messages
 pub mod Tells
@@ -39,4 +41,6 @@ pub mod Book
 pub mod Rule3Order
 pub mod Rule3Cyclic
 pub mod Rule3Improper
+-- the call
+pub mod Outcomes
 pub mod Due

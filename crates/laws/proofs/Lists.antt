@@ -1,14 +1,16 @@
--- A list of one entry for each number below n: its length, and entry x of it. Entry x of a table of 255 places.
+-- A list of one entry for each number below n: its length, and entry x of it. A run of stores from the first place on is what fits, and then what stood behind
+-- it (`sets-first`): so the list as the call leaves it, and the answer's 255 places, a list and then zeros, which stand here by entries too.
 -- Assumes nothing.
 use mathlib.Core.Path.{_≡_, refl, sym, ap, _∙_}
 use mathlib.Core.List.{List, [], _∷_, _++_}
 use Prim.Native.Nat.{ℕ, zero, suc, _+_, _-_, _≤_, _<_}
 use native.Mathlib.Omega.{arith}
 use native.Mathlib.Decide.{decLt}
-use lib.ListN.{length, getD, drop, replicate, length-append, length-replicate, List·getD-append, List·getD-eq-default}
-use lib.Seq.{sets, sets-eq, length-sets, getD-append-seam, getD-append-add, getD-drop}
+use lib.ListN.{length, getD, take, drop, set, replicate, length-append, length-replicate, List·getD-append, List·getD-eq-default}
+use lib.Seq.{sets, length-sets, take-all, take-at, getD-append-seam, getD-append-add}
+use Rattle.rules.specs.declared.Diagnostic.{Diagnostic}
 use Rattle.rules.specs.Base.{over}
-use Rattle.rules.specs.Answer.{places}
+use Rattle.rules.specs.Answer.{places, filled}
 use Rattle.laws.proofs.Counts.{Eq?, same, other, eq?}
 
 module _ {A : Type 0} (f : ℕ → A) where
@@ -37,25 +39,76 @@ zeros-get zero x = refl
 zeros-get (suc k) zero = refl
 zeros-get (suc k) (suc x) = zeros-get k x
 
--- a list of at most n entries, stored over n zeros
-stored-get : (n : ℕ) (l : List ℕ) → length l ≤ n → (x : ℕ) → getD (sets (replicate n 0) 0 l) x 0 ≡ getD l x 0
-stored-get n l h x = ap (λ (m : List ℕ). getD m x 0) (sets-eq l (replicate n 0) 0 (omega (arith, length-replicate {A = ℕ} n 0))) ∙ go (decLt x (length l))
+-- ## Stores from the first place on
+
+module _ {A : Type 0} where
+  sets-none : (i : ℕ) (xs : List A) → sets [] i xs ≡ []
+  sets-none i [] = refl
+  sets-none i (x ∷ xs) = sets-none (suc i) xs
+
+  sets-behind : (y : A) (b : List A) (i : ℕ) (xs : List A) → sets (y ∷ b) (suc i) xs ≡ y ∷ sets b i xs
+  sets-behind y b i [] = refl
+  sets-behind y b i (x ∷ xs) = sets-behind y (set b i x) (suc i) xs
+
+  -- what fits is stored, and what stands behind it is kept
+  pub sets-first : (b xs : List A) → sets b 0 xs ≡ take (length b) xs ++ drop (length xs) b
+  sets-first [] [] = refl
+  sets-first (y ∷ b) [] = refl
+  sets-first [] (x ∷ xs) = sets-none 1 xs
+  sets-first (y ∷ b) (x ∷ xs) = sets-behind x b 0 xs ∙ ap {B = List A} (λ l. x ∷ l) (sets-first b xs)
+
+-- ## A list, and then zeros
+
+zeros-drop : (k n : ℕ) → drop k (replicate n 0) ≡ replicate {A = ℕ} (n - k) 0
+zeros-drop zero n = let e : n ≡ n - 0 = omega arith in ap (λ (m : ℕ). replicate {A = ℕ} m 0) e
+zeros-drop (suc k) zero = let e : 0 ≡ 0 - suc k = omega arith in ap (λ (m : ℕ). replicate {A = ℕ} m 0) e
+zeros-drop (suc k) (suc n) = let e : n - k ≡ suc n - suc k = omega arith in zeros-drop k n ∙ ap (λ (m : ℕ). replicate {A = ℕ} m 0) e
+
+-- it is what storing it over zeros gives
+padded-sets : (n : ℕ) (l : List ℕ) → take n l ++ replicate (n - length l) 0 ≡ sets (replicate n 0) 0 l
+padded-sets n l =
+    sym (sets-first (replicate n 0) l ∙ ap (λ (k : ℕ). take k l ++ drop (length l) (replicate n 0)) (length-replicate {A = ℕ} n 0)
+    ∙ ap (λ (m : List ℕ). take n l ++ m) (zeros-drop (length l) n))
+
+-- where the list is short enough, it stands there whole
+padded-front : (n : ℕ) (l : List ℕ) → length l ≤ n → take n l ++ replicate (n - length l) 0 ≡ l ++ replicate (n - length l) 0
+padded-front n l h = ap (λ (m : List ℕ). m ++ replicate (n - length l) 0) (take-all n l h)
+
+padded-get : (n : ℕ) (l : List ℕ) → length l ≤ n → (x : ℕ) → getD (take n l ++ replicate (n - length l) 0) x 0 ≡ getD l x 0
+padded-get n l h x = ap (λ (m : List ℕ). getD m x 0) (padded-front n l h) ∙ go (decLt x (length l))
   where
     zeros : List ℕ
-    zeros = drop (0 + length l) (replicate n 0)
+    zeros = replicate (n - length l) 0
 
     go : Dec (x < length l) → getD (l ++ zeros) x 0 ≡ getD l x 0
     go (yes k) = List·getD-append l zeros 0 x k
     go (no k) =
         let e : length l + (x - length l) ≡ x = omega arith in
-        ap (λ (y : ℕ). getD (l ++ zeros) y 0) (sym e) ∙ getD-append-add l zeros (x - length l) 0
-        ∙ getD-drop (0 + length l) (replicate n 0) (x - length l) 0 ∙ zeros-get n (0 + length l + (x - length l))
+        ap (λ (y : ℕ). getD (l ++ zeros) y 0) (sym e) ∙ getD-append-add l zeros (x - length l) 0 ∙ zeros-get (n - length l) (x - length l)
         ∙ sym (List·getD-eq-default l 0 (omega arith))
 
-pub places-get : (l : List ℕ) → length l ≤ 255 → (x : ℕ) → getD (places l) x 0 ≡ getD l x 0
-unfolding places
-places-get l h x = stored-get 255 l h x
+padded-take : (n : ℕ) (l : List ℕ) → length l ≤ n → take (length l) (take n l ++ replicate (n - length l) 0) ≡ l
+padded-take n l h = ap (take (length l)) (padded-front n l h) ∙ take-at l (replicate (n - length l) 0) (length l) refl
 
-pub places-length : (l : List ℕ) → length (places l) ≡ 255
-unfolding places
-places-length l = length-sets (replicate 255 0) 0 l ∙ length-replicate {A = ℕ} 255 0
+-- ## The list as the call leaves it, and the answer's 255 places
+
+pub filled-sets : (list report : List Diagnostic) → filled list report ≡ sets list 0 report
+unfolding filled
+filled-sets list report = sym (sets-first list report)
+
+module _ (l : List ℕ) where
+  pub places-sets : places l ≡ sets (replicate 255 0) 0 l
+  unfolding places
+  places-sets = padded-sets 255 l
+
+  pub places-length : length (places l) ≡ 255
+  places-length = ap length places-sets ∙ length-sets (replicate 255 0) 0 l ∙ length-replicate {A = ℕ} 255 0
+
+  module _ (h : length l ≤ 255) where
+    pub places-get : (x : ℕ) → getD (places l) x 0 ≡ getD l x 0
+    unfolding places
+    places-get x = padded-get 255 l h x
+
+    pub places-take : take (length l) (places l) ≡ l
+    unfolding places
+    places-take = padded-take 255 l h

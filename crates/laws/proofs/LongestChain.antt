@@ -3,15 +3,17 @@
 use mathlib.Core.Path.{_≡_, refl, sym, _∙_, subst}
 use mathlib.Core.Logic.{_≢_, _⊎_, inl, inr, _↔_}
 use mathlib.Core.Bool.{Bool, true, false, not, _||_}
-use Prim.Native.Nat.{ℕ, zero, suc, _≤_, _<_, max, min}
+use Prim.Native.Nat.{ℕ, zero, suc, _≤_, _<_, max}
 use native.Mathlib.Omega.{arith}
 use native.Mathlib.Decide.{decLe}
 use lib.Dec.{T, eqb, leb, leb→le, nleb→lt}
-use Rattle.laws.proofs.Counts.{Eq?, same, other, eq?, eqb-same, eqb-true, eqb-false, free, free-one}
+use Rattle.laws.specs.Left.{free}
+use Rattle.laws.specs.TierPass.{upper, up}
+use Rattle.laws.proofs.Counts.{Eq?, same, other, eq?, eqb-same, eqb-true, eqb-false, free-one}
 use Rattle.rules.specs.Graph.{Graph}
 use Rattle.laws.proofs.Chains.{Good, Edge, Chain, edge, link, Endless}
 use Rattle.laws.proofs.ChainLaws.{snoc}
-use Rattle.rules.specs.Tiers.{tops, tierAt}
+use Rattle.rules.specs.Tiers.{largest, tierAt}
 
 abbrev pub Loops : Graph → ℕ → Type 0
 Loops G i = (c : ℕ) × Chain G i c × Chain G c c
@@ -24,20 +26,12 @@ Way G (suc m) i = (j : ℕ) × Edge G i j × Way G m j
 -- the longest chain from i, counted up to k edges
 unfoldable pub long : Graph → ℕ → ℕ → ℕ
 long G zero i = 0
-long G (suc k) i = tops (λ t. suc t) (λ j. long G k j) G i (G .fields i)
-
--- what an edge to an item of tier t gives
-abbrev pub upper : Bool → ℕ → ℕ
-upper true t = 255
-upper false t = min 254 (suc t)
-
-abbrev pub up : ℕ → ℕ
-up t = upper (eqb t 255) t
+long G (suc k) i = largest (λ j. suc (long G k j)) G i (G .fields i)
 
 unfoldable pub tier : Graph → ℕ → ℕ → ℕ
 tier G n i = tierAt n (long G n i)
 
-module _ (h f : ℕ → ℕ) (G : Graph) (i : ℕ) where
+module _ (f : ℕ → ℕ) (G : Graph) (i : ℕ) where
   -- field x leads somewhere
   abbrev Leads : ℕ → Type 0
   Leads x = G .to i x ≢ 255
@@ -46,8 +40,8 @@ module _ (h f : ℕ → ℕ) (G : Graph) (i : ℕ) where
   grows true t u = omega arith
   grows false t u = omega arith
 
-  field-ge : (k x : ℕ) → x < k → Leads x → h (f (G .to i x)) ≤ tops h f G i k
-  unfolding tops
+  field-ge : (k x : ℕ) → x < k → Leads x → f (G .to i x) ≤ largest f G i k
+  unfolding largest
   field-ge zero x l ne = absurd (omega arith)
   field-ge (suc k) x l ne = go (eq? x k) (field-ge k x)
     where
@@ -55,54 +49,54 @@ module _ (h f : ℕ → ℕ) (G : Graph) (i : ℕ) where
       last true e m t u = absurd (m (eqb-true (G .to i k) 255 e))
       last false e m t u = omega arith
 
-      go : Eq? x k → (x < k → Leads x → h (f (G .to i x)) ≤ tops h f G i k) → h (f (G .to i x)) ≤ tops h f G i (suc k)
-      go (same _ p) ih = rw p (last (eqb (G .to i k) 255) refl (subst Leads p ne) (tops h f G i k) (h (f (G .to i k))))
-      go (other _ p) ih = let a = ih (omega arith) ne in let b = grows (eqb (G .to i k) 255) (tops h f G i k) (h (f (G .to i k))) in omega arith
+      go : Eq? x k → (x < k → Leads x → f (G .to i x) ≤ largest f G i k) → f (G .to i x) ≤ largest f G i (suc k)
+      go (same _ p) ih = rw p (last (eqb (G .to i k) 255) refl (subst Leads p ne) (largest f G i k) (f (G .to i k)))
+      go (other _ p) ih = let a = ih (omega arith) ne in let b = grows (eqb (G .to i k) 255) (largest f G i k) (f (G .to i k)) in omega arith
 
   abbrev At : ℕ → ℕ → Type 0
-  At k t = (t ≡ 0) ⊎ ((x : ℕ) × (x < k) × Leads x × (t ≡ h (f (G .to i x))))
+  At k t = (t ≡ 0) ⊎ ((x : ℕ) × (x < k) × Leads x × (t ≡ f (G .to i x)))
 
-  field-at : (k : ℕ) → At k (tops h f G i k)
-  unfolding tops
+  field-at : (k : ℕ) → At k (largest f G i k)
+  unfolding largest
   field-at zero = inl refl
-  field-at (suc k) = go (eqb (G .to i k) 255) refl (decLe (tops h f G i k) (h (f (G .to i k)))) (field-at k)
+  field-at (suc k) = go (eqb (G .to i k) 255) refl (decLe (largest f G i k) (f (G .to i k))) (field-at k)
     where
-      wide : At k (tops h f G i k) → At (suc k) (tops h f G i k)
+      wide : At k (largest f G i k) → At (suc k) (largest f G i k)
       wide (inl e) = inl e
       wide (inr r) = let l : r .0 < k = r .1 in inr (r .0, omega arith, r .2, r .3)
 
-      go : (b : Bool) → eqb (G .to i k) 255 ≡ b → Dec (tops h f G i k ≤ h (f (G .to i k))) → At k (tops h f G i k)
-          → At (suc k) (elim b as (λ _. ℕ) [ true ↦ tops h f G i k | false ↦ max (tops h f G i k) (h (f (G .to i k))) ])
+      go : (b : Bool) → eqb (G .to i k) 255 ≡ b → Dec (largest f G i k ≤ f (G .to i k)) → At k (largest f G i k)
+          → At (suc k) (elim b as (λ _. ℕ) [ true ↦ largest f G i k | false ↦ max (largest f G i k) (f (G .to i k)) ])
       go true e _ r = wide r
       go false e (yes l) r = inr (k, omega arith, eqb-false (G .to i k) 255 e, omega arith)
-      go false e (no l) r = let z : max (tops h f G i k) (h (f (G .to i k))) ≡ tops h f G i k = omega arith in rw z (wide r)
+      go false e (no l) r = let z : max (largest f G i k) (f (G .to i k)) ≡ largest f G i k = omega arith in rw z (wide r)
 
-  pub tops-ge : (j : ℕ) → Edge G i j → h (f j) ≤ tops h f G i (G .fields i)
-  tops-ge j e =
-      subst (λ (x : ℕ). h (f x) ≤ tops h f G i (G .fields i)) (e .leads)
+  pub largest-ge : (j : ℕ) → Edge G i j → f j ≤ largest f G i (G .fields i)
+  largest-ge j e =
+      subst (λ (x : ℕ). f x ≤ largest f G i (G .fields i)) (e .leads)
       (field-ge (G .fields i) (e .place) (e .is-field) (λ q. e .is-item (sym (e .leads) ∙ q)))
 
-  pub tops-at : (tops h f G i (G .fields i) ≡ 0) ⊎ ((j : ℕ) × Edge G i j × (tops h f G i (G .fields i) ≡ h (f j)))
-  tops-at = go (field-at (G .fields i))
+  pub largest-at : (largest f G i (G .fields i) ≡ 0) ⊎ ((j : ℕ) × Edge G i j × (largest f G i (G .fields i) ≡ f j))
+  largest-at = go (field-at (G .fields i))
     where
-      go : At (G .fields i) (tops h f G i (G .fields i)) → (tops h f G i (G .fields i) ≡ 0) ⊎ ((j : ℕ) × Edge G i j × (tops h f G i (G .fields i) ≡ h (f j)))
+      go : At (G .fields i) (largest f G i (G .fields i)) → (largest f G i (G .fields i) ≡ 0) ⊎ ((j : ℕ) × Edge G i j × (largest f G i (G .fields i) ≡ f j))
       go (inl e) = inl e
       go (inr r) = inr (G .to i (r .0), record { place = r .0; is-field = r .1; leads = refl; is-item = r .2 }, r .3)
 
-fields-same : (h h′ f f′ : ℕ → ℕ) (G : Graph) (i k : ℕ) → ((x : ℕ) → x < k → G .to i x ≢ 255 → h (f (G .to i x)) ≡ h′ (f′ (G .to i x)))
-    → tops h f G i k ≡ tops h′ f′ G i k
-unfolding tops
-fields-same h h′ f f′ G i zero e = refl
-fields-same h h′ f f′ G i (suc k) e = go (eqb (G .to i k) 255) refl (fields-same h h′ f f′ G i k (λ x l. e x (omega arith)))
+fields-same : (f f′ : ℕ → ℕ) (G : Graph) (i k : ℕ) → ((x : ℕ) → x < k → G .to i x ≢ 255 → f (G .to i x) ≡ f′ (G .to i x))
+    → largest f G i k ≡ largest f′ G i k
+unfolding largest
+fields-same f f′ G i zero e = refl
+fields-same f f′ G i (suc k) e = go (eqb (G .to i k) 255) refl (fields-same f f′ G i k (λ x l. e x (omega arith)))
   where
-    go : (b : Bool) → eqb (G .to i k) 255 ≡ b → tops h f G i k ≡ tops h′ f′ G i k
-        → _≡_ {A = ℕ} (elim b as (λ _. ℕ) [ true ↦ tops h f G i k | false ↦ max (tops h f G i k) (h (f (G .to i k))) ]) (elim b as (λ _. ℕ) [ true ↦ tops h′ f′ G i k | false ↦ max (tops h′ f′ G i k) (h′ (f′ (G .to i k))) ])
+    go : (b : Bool) → eqb (G .to i k) 255 ≡ b → largest f G i k ≡ largest f′ G i k
+        → _≡_ {A = ℕ} (elim b as (λ _. ℕ) [ true ↦ largest f G i k | false ↦ max (largest f G i k) (f (G .to i k)) ]) (elim b as (λ _. ℕ) [ true ↦ largest f′ G i k | false ↦ max (largest f′ G i k) (f′ (G .to i k)) ])
     go true q r = r
     go false q r = rw (r, e k (omega arith) (eqb-false (G .to i k) 255 q))
 
-pub tops-same : (h h′ f f′ : ℕ → ℕ) (G : Graph) (i : ℕ) → ((j : ℕ) → Edge G i j → h (f j) ≡ h′ (f′ j))
-    → tops h f G i (G .fields i) ≡ tops h′ f′ G i (G .fields i)
-tops-same h h′ f f′ G i e = fields-same h h′ f f′ G i (G .fields i) (λ x l ne. e (G .to i x) (record { place = x; is-field = l; leads = refl; is-item = ne }))
+pub largest-same : (f f′ : ℕ → ℕ) (G : Graph) (i : ℕ) → ((j : ℕ) → Edge G i j → f j ≡ f′ j)
+    → largest f G i (G .fields i) ≡ largest f′ G i (G .fields i)
+largest-same f f′ G i e = fields-same f f′ G i (G .fields i) (λ x l ne. e (G .to i x) (record { place = x; is-field = l; leads = refl; is-item = ne }))
 
 -- one item more is seen
 abbrev seen : (ℕ → Bool) → ℕ → ℕ → Bool
@@ -141,12 +135,12 @@ up-le t = go (eqb t 255)
     go true = omega arith
     go false = omega arith
 
-tops-le : (f : ℕ → ℕ) (G : Graph) (i k : ℕ) → tops up f G i k ≤ 255
-unfolding tops
-tops-le f G i zero = omega arith
-tops-le f G i (suc k) = go (eqb (G .to i k) 255) (tops-le f G i k)
+largest-le : (f : ℕ → ℕ) (G : Graph) (i k : ℕ) → largest (λ j. up (f j)) G i k ≤ 255
+unfolding largest
+largest-le f G i zero = omega arith
+largest-le f G i (suc k) = go (eqb (G .to i k) 255) (largest-le f G i k)
   where
-    go : (b : Bool) → tops up f G i k ≤ 255 → elim b as (λ _. ℕ) [ true ↦ tops up f G i k | false ↦ max (tops up f G i k) (up (f (G .to i k))) ] ≤ 255
+    go : (b : Bool) → largest (λ j. up (f j)) G i k ≤ 255 → elim b as (λ _. ℕ) [ true ↦ largest (λ j. up (f j)) G i k | false ↦ max (largest (λ j. up (f j)) G i k) (up (f (G .to i k))) ] ≤ 255
     go true l = l
     go false l = omega (arith, up-le (f (G .to i k)))
 
@@ -154,7 +148,7 @@ module _ (G : Graph) where
   long-le : (k i : ℕ) → long G k i ≤ k
   unfolding long
   long-le zero i = omega arith
-  long-le (suc k) i = go (tops-at (λ t. suc t) (λ j. long G k j) G i) (long-le k)
+  long-le (suc k) i = go (largest-at (λ j. suc (long G k j)) G i) (long-le k)
     where
       go : (long G (suc k) i ≡ 0) ⊎ ((j : ℕ) × Edge G i j × (long G (suc k) i ≡ suc (long G k j))) → ((j : ℕ) → long G k j ≤ k) → long G (suc k) i ≤ suc k
       go (inl e) ih = omega arith
@@ -164,7 +158,7 @@ module _ (G : Graph) where
   long-way : (k i : ℕ) → Way G (long G k i) i
   unfolding long
   long-way zero i = tt
-  long-way (suc k) i = go (tops-at (λ t. suc t) (λ j. long G k j) G i) (long-way k)
+  long-way (suc k) i = go (largest-at (λ j. suc (long G k j)) G i) (long-way k)
     where
       go : (long G (suc k) i ≡ 0) ⊎ ((j : ℕ) × Edge G i j × (long G (suc k) i ≡ suc (long G k j))) → ((j : ℕ) → Way G (long G k j) j)
           → Way G (long G (suc k) i) i
@@ -176,7 +170,7 @@ module _ (G : Graph) where
   unfolding long
   way-long k zero i l w = omega arith
   way-long zero (suc m) i l w = absurd (omega arith)
-  way-long (suc k) (suc m) i l w = omega (arith, way-long k m (w .0) (omega arith) (w .2), tops-ge (λ t. suc t) (λ j. long G k j) G i (w .0) (w .1))
+  way-long (suc k) (suc m) i l w = omega (arith, way-long k m (w .0) (omega arith) (w .2), largest-ge (λ j. suc (long G k j)) G i (w .0) (w .1))
 
   shorter : (m i : ℕ) → Way G (suc m) i → Way G m i
   shorter zero i w = tt
@@ -274,28 +268,28 @@ module _ (G : Graph) where
         from h (more q k) = absurd (omega (arith, loops-long i h))
 
     -- and else one more than the largest tier held
-    pub tier-step : (i : ℕ) → i < n → tier G n i ≡ tops up (tier G n) G i (G .fields i)
+    pub tier-step : (i : ℕ) → i < n → tier G n i ≡ largest (λ j. up (tier G n j)) G i (G .fields i)
     unfolding tier long
     tier-step i l = go (le? n (long G n i))
       where
         all : ℕ
-        all = tops up (tier G n) G i (G .fields i)
+        all = largest (λ j. up (tier G n j)) G i (G .fields i)
 
         looping : Loops G i → all ≡ 255
         looping (c, a, b) =
             let r = move a b in
             let e : tier G n (r .0) ≡ 255 = tier-endless (r .0) (closed i (r .0) (r .1)) .1 (c, r .2, b) in
-            let k : up (tier G n (r .0)) ≤ all = tops-ge up (tier G n) G i (r .0) (r .1) in
+            let k : up (tier G n (r .0)) ≤ all = largest-ge (λ j. up (tier G n j)) G i (r .0) (r .1) in
             let k′ : 255 ≤ all = rw e at k in
-            omega (arith, tops-le (tier G n) G i (G .fields i))
+            omega (arith, largest-le (tier G n) G i (G .fields i))
 
         held : long G n i < n → (j : ℕ) → Edge G i j → Le? n (long G n j) → up (tier G n j) ≡ suc (long G n j)
         held h j e (most _ k) = let u = long-loops j (closed i j e) k in absurd (omega (arith, loops-long i (u .0, link e (u .1), u .2)))
-        held h j e (more q k) = rw q (up-small (long G n j) (omega (arith, good .few, settled i h, tops-ge (λ t. suc t) (λ x. long G n x) G i j e)))
+        held h j e (more q k) = rw q (up-small (long G n j) (omega (arith, good .few, settled i h, largest-ge (λ j. suc (long G n j)) G i j e)))
 
         go : Le? n (long G n i) → tier G n i ≡ all
         go (most q h) = rw q (sym (looping (long-loops i l h)))
-        go (more q h) = rw q (sym (tops-same up (λ t. suc t) (tier G n) (λ j. long G n j) G i (λ j e. held h j e (le? n (long G n j))) ∙ settled i h))
+        go (more q h) = rw q (sym (largest-same (λ j. up (tier G n j)) (λ j. suc (long G n j)) G i (λ j e. held h j e (le? n (long G n j))) ∙ settled i h))
 
 cut : (G : Graph) (a b x : ℕ) → b ≤ a → Way G a x → Way G b x
 cut G a zero x l w = tt

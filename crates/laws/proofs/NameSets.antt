@@ -1,7 +1,7 @@
--- What a set of names contains: the empty set nothing, `add` one name more; and the search over such sets finds the improper names.
+-- What a set of names contains: the empty set nothing, `add` one name more.
 -- Assumes nothing.
 use mathlib.Core.Path.{_≡_, refl, sym, ap, _∙_}
-use mathlib.Core.Logic.{_≢_, _↔_}
+use mathlib.Core.Logic.{_≢_}
 use mathlib.Core.Bool.{true, false, _||_}
 use mathlib.Core.List.{List, []}
 use Prim.Native.Nat.{ℕ, zero, suc, _+_, _-_, _*_, _/_, _%_, _^_, _<_, max}
@@ -11,12 +11,9 @@ use native.Mathlib.Decide.{decLt}
 use lib.Bits.{bitOr, or-step, or-shr}
 use lib.Pow.{pow-lt, pow-add, shl-shr}
 use lib.Arith.{digits-mod}
-use lib.Dec.{T, eqb}
+use lib.Dec.{eqb}
 use lib.ListN.{length, getD, set, length-set}
 use lib.Seq.{getD-set-same, getD-set-other}
-use Rattle.rules.specs.Improper.{Looks, to, search}
-use Rattle.laws.proofs.ImproperSearch.{Improper}
-use Rattle.laws.proofs.ImproperSearch.{improper-found}
 use Rattle.laws.proofs.Counts.{Eq?, same, other, eq?}
 use Rattle.rules.specs.Names.{bitOf, empty, add, _∋_ as has}
 
@@ -112,9 +109,3 @@ empty-get (suc (suc (suc (suc q)))) = refl
 pub has-empty : (x : ℕ) → has empty x ≡ false
 unfolding has bitOf
 has-empty x = ap (λ w. eqb (w / 2 ^ (x % 64) % 2) 1) (empty-get (x / 64)) ∙ ap (λ n. eqb (n % 2) 1) (zero-div (2 ^ (x % 64)))
-
--- the search over such sets finds the improper names
-pub improper-names : (g : Looks) → ((i j k : ℕ) → k < g .fields i → g .look i k ≡ to j → j < 256) → (x : ℕ) → x < 256
-    → T (has (search (List ℕ) has add g 256 257 empty) x) ↔ Improper g x
-improper-names g closed x l =
-    improper-found (List ℕ) has add g 256 (λ s. length s ≡ 4) (λ s i o _. length-add s i ∙ o) (λ s i y o h. has-add s i y o h) closed empty refl has-empty x l

@@ -15,11 +15,10 @@ use Rattle.rules.specs.View.{fieldCount, field}
 use Rattle.rules.specs.Collect.{none}
 use Rattle.rules.specs.Types.{Types, typesOf, structOf}
 use Rattle.rules.specs.Improper.{Look, fine, bad, to, definite, lookName, lookRow, looksFields, looksLook, looksOf, improperOf}
-use Rattle.laws.proofs.ImproperSearch.{Improper, here, there}
+use Rattle.laws.proofs.ImproperSearch.{Improper, here, there, improper-found}
 use Rattle.rules.specs.Rule3.{LastStruct, Borne, Through, end, into, Bad, rust-string, box, vec, str, fn, void, slice, name, ends, goes}
 use Rattle.rules.specs.Rule3 as R
 use Rattle.laws.proofs.Counts.{Eq?, same, other, eq?}
-use Rattle.laws.proofs.NameSets.{improper-names}
 use Rattle.laws.proofs.LastItems.{Fits, of-last, last-of}
 use Rattle.laws.proofs.SetMembers.{structs-are, rust-are, aliases-are, borne-small}
 use Rattle.laws.proofs.Tests.{never, is-true, is-false, or-cases, or-left, or-right, no-eq}
@@ -279,4 +278,4 @@ module _ (s : List ℕ) (fits : Fits s) where
 
   pub improper-is : (n : ℕ) → n < 256 → T (improperOf s t ∋ n) ↔ R.Improper s n
   unfolding improperOf
-  improper-is n l = let r = improper-names (looksOf s t) (λ i j k. closed i j k) n l in (λ u. improper-to (r .0 u), λ p. r .1 (improper-from p))
+  improper-is n l = let r = improper-found (looksOf s t) (λ i j k. closed i j k) n l in (λ u. improper-to (r .0 u), λ p. r .1 (improper-from p))

@@ -1,6 +1,6 @@
 -- Rule 3 of the order and of the tiers, in the words of the sheet.
 -- Assumes nothing.
-use Prim.Native.Nat.{ℕ, zero, suc, _+_, _≤_, _<_, min}
+use Prim.Native.Nat.{ℕ, zero, suc, _≤_, _<_, min}
 use mathlib.Core.Path.{_≡_, refl, sym, ap, _∙_, subst}
 use mathlib.Core.Logic.{_⊎_, inl, inr, _↔_}
 use mathlib.Core.Bool.{Bool, _&&_}
@@ -8,8 +8,7 @@ use mathlib.Core.List.{List}
 use native.Mathlib.Omega.{arith}
 use lib.Dec.{T}
 use borrow.Author.Tests.{lt-ltb, le-ltb}
-use lib.ListN.{length, getD, take, drop, replicate, length-replicate}
-use lib.Seq.{sets, sets-eq, take-at}
+use lib.ListN.{length, getD, take}
 use Rattle.rules.specs.Diagnostics.{bit}
 use Rattle.rules.specs.View.{Struct, items, itemIs}
 use Rattle.rules.specs.Types.{typesOf}
@@ -26,6 +25,7 @@ use Rattle.rules.specs.Rule3 as R
 use Rattle.laws.proofs.WalkOrder.{in-order, each-once, chain-end}
 use Rattle.laws.proofs.WalkCalls.{order-length, order-few}
 use Rattle.laws.proofs.Sums.{sumTo, sum-cut}
+use Rattle.laws.proofs.Lists.{places-take}
 use Rattle.laws.proofs.Tests.{is-true, is-false}
 use Rattle.laws.proofs.TierTable.{table-all, table-none}
 use Rattle.laws.proofs.TierRule.{tier-rule}
@@ -79,14 +79,7 @@ module _ (s : List ℕ) (fits : Fits s) where
   places-are = order-length G 255 (good s fits) ∙ sum-high 255 (fits .few)
 
   pub order-is : take (structsTo s (items s)) (places sorted) ≡ sorted
-  unfolding places
-  order-is =
-      ap (λ n. take n (places sorted)) (sym places-are)
-      ∙ stored (replicate 255 0) sorted
-      (let l : length sorted ≤ 255 = order-few G 255 (good s fits) in subst (λ (n : ℕ). length sorted ≤ n) (sym (length-replicate {A = ℕ} 255 0)) l)
-    where
-      stored : (l o : List ℕ) → length o ≤ length l → take (length o) (sets l 0 o) ≡ o
-      stored l o h = rw (sets-eq o l 0 (omega arith)) (take-at o (drop (0 + length o) l) (length o) refl)
+  order-is = ap (λ n. take n (places sorted)) (sym places-are) ∙ places-take sorted (order-few G 255 (good s fits))
 
   pub once-is : (i : ℕ) → IsStruct s i → count i sorted ≡ 1
   once-is i si = each-once G 255 (good s fits) i ∙ ap bit (is-true (G .struct i) (struct-is s i .1 si))

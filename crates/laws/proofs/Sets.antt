@@ -20,7 +20,7 @@ use Rattle.rules.specs.View.{items, itemName}
 use Rattle.rules.specs.Collect.{namesTo, entersStructs, entersEnums, entersCxx, entersRust, entersAliases, entersUntrusted}
 use Rattle.rules.specs.Trivial.{requiredOf}
 use Rattle.rules.specs.Types.{typesOf}
-use Rattle.rules.specs.Improper.{Looks, looksOf, found, attempt, passTo, search, improperOf}
+use Rattle.rules.specs.Improper.{Looks, looksOf, isNew, passTo, search, improperOf}
 use Rattle.rules.specs.Names.{Words, empty, bitOf, _∋_, add, size, namesBelow}
 use Rattle.laws.proofs.Counts.{Eq?, same, other, eq?}
 use Rattle.laws.proofs.Sums.{sumTo, sum-same, sum-bits, sum-first, sum-split}
@@ -181,27 +181,29 @@ below-is p (suc k) n l = go (p k) refl (eq? n k) (below-is p k n (omega arith))
     go false e (other d q) ih = ih ∙ there q
 
 -- the improper names
-pass-set : (g : Looks) (n k : ℕ) (w : Words) → IsSet w → IsSet (passTo Words _∋_ add g n k w .0)
+pass-set : (g : Looks) (k : ℕ) (w : Words) → IsSet w → IsSet (passTo g k w .0)
 unfolding passTo
-pass-set g n zero w h = h
-pass-set g n (suc k) w h = let v = passTo Words _∋_ add g n k w .0 in go v (v ∋ k) (found Words _∋_ add g n v k (g .fields k)) (pass-set g n k w h)
+pass-set g zero w h = h
+pass-set g (suc k) w h = go (isNew g (passTo g k w .0) k) (pass-set g k w h)
   where
-    go : (v : Words) (a b : Bool) → IsSet v → IsSet (attempt Words _∋_ add g n a b v k .0)
-    go v true b h = h
-    go v false true h = add-set v k h
-    go v false false h = h
+    r : Words × Bool
+    r = passTo g k w
 
-search-set : (g : Looks) (n f : ℕ) (w : Words) → IsSet w → IsSet (search Words _∋_ add g n f w)
+    go : (b : Bool) → IsSet (r .0) → IsSet (elim b as (λ _. Words × Bool) [ true ↦ (add (r .0) k, true) | false ↦ r ] .0)
+    go true h = add-set (r .0) k h
+    go false h = h
+
+search-set : (g : Looks) (f : ℕ) (w : Words) → IsSet w → IsSet (search g f w)
 unfolding search
-search-set g n zero w h = h
-search-set g n (suc f) w h = go (passTo Words _∋_ add g n n w .1) (λ v. search-set g n f v)
+search-set g zero w h = h
+search-set g (suc f) w h = go (passTo g 256 w .1) (search-set g f (passTo g 256 w .0) pass)
   where
-    pass : IsSet (passTo Words _∋_ add g n n w .0)
-    pass = pass-set g n n w h
+    pass : IsSet (passTo g 256 w .0)
+    pass = pass-set g 256 w h
 
-    go : (b : Bool) → ((v : Words) → IsSet v → IsSet (search Words _∋_ add g n f v))
-        → IsSet (elim b as (λ _. Words) [ true ↦ search Words _∋_ add g n f (passTo Words _∋_ add g n n w .0) | false ↦ passTo Words _∋_ add g n n w .0 ])
-    go true ih = ih (passTo Words _∋_ add g n n w .0) pass
+    go : (b : Bool) → IsSet (search g f (passTo g 256 w .0))
+        → IsSet (elim b as (λ _. Words) [ true ↦ search g f (passTo g 256 w .0) | false ↦ passTo g 256 w .0 ])
+    go true ih = ih
     go false ih = pass
 
 -- all eight, for every list of bytes
@@ -226,7 +228,7 @@ sets-of s =
       aliases = names-set s (entersAliases s) (items s);
       untrusted = names-set s (entersUntrusted s) (items s);
       requiredTrivial = below-set (λ n. ltb 0 (getD (typesOf s .reasons) n 0)) 256;
-      improper = search-set (looksOf s (typesOf s)) 256 257 empty empty-set;
+      improper = search-set (looksOf s (typesOf s)) 257 empty empty-set;
     }
 
 -- a name is required trivial exactly where it has a reason

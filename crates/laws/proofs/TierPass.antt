@@ -18,30 +18,13 @@ use Rattle.rules.specs.Graph.{Graph}
 use Rattle.laws.proofs.Chains.{Good, Edge, Chain, edge, link}
 use Rattle.rules.specs.Walk.{sortOut}
 use Rattle.laws.proofs.WalkOrder.{InOrder, in-order, each-once, edge-or-back, stands, chain-end}
-use Rattle.laws.proofs.LongestChain.{tops-same, up, tier-wide, tier, tier-endless, tier-step}
-use Rattle.rules.specs.Tiers.{tops, tiersOf}
+use Rattle.laws.specs.TierPass.{up, tierFrom, tiersTo, startTo, passOf}
+use Rattle.laws.proofs.LongestChain.{largest-same, tier-wide, tier, tier-endless, tier-step}
+use Rattle.rules.specs.Tiers.{tiersOf}
 use Rattle.rules.specs.Answer.{places}
 use Rattle.laws.proofs.TierTable.{table-all, table-none}
 use Rattle.laws.proofs.Lists.{zeros-get, places-length}
 use Rattle.laws.proofs.Tests.{bit-le}
-
--- the tier of item i, from the tiers so far
-abbrev pub tierFrom : Graph → List ℕ → ℕ → ℕ
-tierFrom G t i = tops up (λ j. getD t j 0) G i (G .fields i)
-
--- the first p places of the order, one after another
-unfoldable pub tiersTo : Graph → (order : List ℕ) → (p : ℕ) → List ℕ → List ℕ
-tiersTo G o zero t = t
-tiersTo G o (suc p) t = let u = tiersTo G o p t in set u (getD o p 0) (tierFrom G u (getD o p 0))
-
--- before the pass: 255 for each struct item among the first k, over t
-unfoldable pub startTo : Graph → (k : ℕ) → List ℕ → List ℕ
-startTo G zero t = t
-startTo G (suc k) t = let u = startTo G k t in elim (G .struct k) [ true ↦ set u k 255 | false ↦ u ]
-
--- the tiers of n items, by the first p places of the order
-unfoldable pub passOf : Graph → (n : ℕ) → (order : List ℕ) → (p : ℕ) → List ℕ
-passOf G n o p = tiersTo G o p (startTo G n (replicate n 0))
 
 pub record Started (G : Graph) (n k : ℕ) (t : List ℕ) : Type 0 where
   pub size : length t ≡ n
@@ -133,7 +116,7 @@ module _ (G : Graph) (n : ℕ) (good : Good G n) where
             go (no q) (inr c) = h .waits j sj (omega arith) ∙ sym (tier-endless G n good j (good .below j sj) .1 (i, c, link d c))
 
         right : tierFrom G t i ≡ tier G n i
-        right = tops-same up up (λ j. getD t j 0) (tier G n) G i (λ j d. ap up (held j d)) ∙ sym (tier-step G n good i (good .below i si))
+        right = largest-same (λ j. up (getD t j 0)) (λ j. up (tier G n j)) G i (λ j d. ap up (held j d)) ∙ sym (tier-step G n good i (good .below i si))
 
         at-given : (x : ℕ) → Eq? x i → place o x < suc p → getD (set t i (tierFrom G t i)) x 0 ≡ tier G n x
         at-given x (same _ e) q = rw e (getD-set-same t i (tierFrom G t i) 0 fits ∙ right)

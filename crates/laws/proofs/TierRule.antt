@@ -6,10 +6,11 @@ use Prim.Native.Nat.{ℕ, suc, _≤_, min}
 use lib.Dec.{T}
 use Rattle.laws.proofs.Counts.{Eq?, same, other, eq?}
 use Rattle.rules.specs.Graph.{Graph}
-use Rattle.rules.specs.Tiers.{tops}
+use Rattle.rules.specs.Tiers.{largest}
+use Rattle.laws.specs.TierPass.{up}
 use Rattle.laws.proofs.Chains.{Good, Edge, edge, link, Endless}
 use Rattle.laws.proofs.WalkOrder.{chain-end}
-use Rattle.laws.proofs.LongestChain.{tops-ge, tops-at, up, tier, tier-endless, tier-step, loops-endless, endless-loops}
+use Rattle.laws.proofs.LongestChain.{largest-ge, largest-at, tier, tier-endless, tier-step, loops-endless, endless-loops}
 
 -- the tier rule of document 01, over any graph
 pub record TierRule (G : Graph) (t : ℕ → ℕ) : Type 0 where
@@ -46,22 +47,22 @@ module _ (G : Graph) (n : ℕ) (good : Good G n) (t : ℕ → ℕ) (right : (x :
         endless = λ x sx. rw (right x sx) (ends x sx);
         bare = at-bare;
         no-less = at-less;
-        no-more = λ x sx ne. at-more x sx ne (tops-at up (tier G n) G x);
+        no-more = λ x sx ne. at-more x sx ne (largest-at (λ j. up (tier G n j)) G x);
       }
     where
       at-bare : (x : ℕ) → T (G .struct x) → ((j : ℕ) → Edge G x j → ⊥) → t x ≡ 0
-      at-bare x sx none = right x sx ∙ tier-step G n good x (good .below x sx) ∙ go (tops-at up (tier G n) G x)
+      at-bare x sx none = right x sx ∙ tier-step G n good x (good .below x sx) ∙ go (largest-at (λ j. up (tier G n j)) G x)
         where
-          go : (tops up (tier G n) G x (G .fields x) ≡ 0) ⊎ ((j : ℕ) × Edge G x j × (tops up (tier G n) G x (G .fields x) ≡ up (tier G n j)))
-              → tops up (tier G n) G x (G .fields x) ≡ 0
+          go : (largest (λ j. up (tier G n j)) G x (G .fields x) ≡ 0) ⊎ ((j : ℕ) × Edge G x j × (largest (λ j. up (tier G n j)) G x (G .fields x) ≡ up (tier G n j)))
+              → largest (λ j. up (tier G n j)) G x (G .fields x) ≡ 0
           go (inl e) = e
           go (inr r) = absurd (none (r .0) (r .1))
 
       at-less : (x j : ℕ) → T (G .struct x) → (Endless G x → ⊥) → Edge G x j → min 254 (suc (t j)) ≤ t x
-      at-less x j sx ne e = rw (right x sx, tier-step G n good x (good .below x sx), ← held x j sx ne e) (tops-ge up (tier G n) G x j e)
+      at-less x j sx ne e = rw (right x sx, tier-step G n good x (good .below x sx), ← held x j sx ne e) (largest-ge (λ j. up (tier G n j)) G x j e)
 
       at-more : (x : ℕ) → T (G .struct x) → (Endless G x → ⊥)
-          → (tops up (tier G n) G x (G .fields x) ≡ 0) ⊎ ((j : ℕ) × Edge G x j × (tops up (tier G n) G x (G .fields x) ≡ up (tier G n j)))
+          → (largest (λ j. up (tier G n j)) G x (G .fields x) ≡ 0) ⊎ ((j : ℕ) × Edge G x j × (largest (λ j. up (tier G n j)) G x (G .fields x) ≡ up (tier G n j)))
           → (t x ≡ 0) ⊎ ((j : ℕ) × Edge G x j × (t x ≡ min 254 (suc (t j))))
       at-more x sx ne (inl e) = inl (right x sx ∙ tier-step G n good x (good .below x sx) ∙ e)
       at-more x sx ne (inr r) = inr (r .0, r .1, right x sx ∙ tier-step G n good x (good .below x sx) ∙ r .2 ∙ held x (r .0) sx ne (r .1))

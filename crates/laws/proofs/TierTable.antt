@@ -10,11 +10,11 @@ use lib.Dec.{T, leb, leb→le}
 use lib.ListN.{length, getD, length-map, length-replicate, List·getD-eq-default}
 use Rattle.rules.specs.Graph.{Graph}
 use Rattle.rules.specs.Answer.{places}
-use Rattle.rules.specs.Tiers.{tops, above, longest, capped, tierAt, tiersOf}
+use Rattle.rules.specs.Tiers.{largest, above, longest, capped, tierAt, tiersOf}
 use Rattle.laws.proofs.Lists.{over-length, over-get, zeros-get, places-get}
 use Rattle.laws.proofs.Chains.{Good, Edge, edge}
 use Rattle.laws.proofs.WalkOrder.{chain-end}
-use Rattle.laws.proofs.LongestChain.{long, tier, tops-same}
+use Rattle.laws.proofs.LongestChain.{long, tier, largest-same}
 
 longest-length : (G : Graph) (n k : ℕ) → length (longest G n k) ≡ n
 unfolding longest
@@ -40,8 +40,8 @@ module _ (G : Graph) (n : ℕ) (good : Good G n) where
       ∙ go (G .struct x) refl (λ j e. ap (λ m. suc m) (longest-is k j (chain-end G n good (edge e))))
     where
       go : (b : Bool) → G .struct x ≡ b → ((j : ℕ) → Edge G x j → suc (getD (longest G n k) j 0) ≡ suc (long G k j))
-          → _≡_ {A = ℕ} (elim b as (λ _. ℕ) [ true ↦ tops (λ m. suc m) (λ j. getD (longest G n k) j 0) G x (G .fields x) | false ↦ 0 ]) (tops (λ t. suc t) (λ j. long G k j) G x (G .fields x))
-      go true e held = tops-same (λ m. suc m) (λ m. suc m) (λ j. getD (longest G n k) j 0) (λ j. long G k j) G x held
+          → _≡_ {A = ℕ} (elim b as (λ _. ℕ) [ true ↦ largest (λ j. suc (getD (longest G n k) j 0)) G x (G .fields x) | false ↦ 0 ]) (largest (λ j. suc (long G k j)) G x (G .fields x))
+      go true e held = largest-same (λ j. suc (getD (longest G n k) j 0)) (λ j. suc (long G k j)) G x held
       go false e held = absurd (subst T e sx)
 
   -- and nothing for what is no struct item
@@ -51,7 +51,7 @@ module _ (G : Graph) (n : ℕ) (good : Good G n) where
   longest-none (suc k) x l nt = over-get (λ i. above G (longest G n k) i) 0 n x l ∙ go (G .struct x) refl
     where
       go : (b : Bool) → G .struct x ≡ b
-          → _≡_ {A = ℕ} (elim b as (λ _. ℕ) [ true ↦ tops (λ m. suc m) (λ j. getD (longest G n k) j 0) G x (G .fields x) | false ↦ 0 ]) 0
+          → _≡_ {A = ℕ} (elim b as (λ _. ℕ) [ true ↦ largest (λ j. suc (getD (longest G n k) j 0)) G x (G .fields x) | false ↦ 0 ]) 0
       go true e = absurd (nt (subst T (sym e) tt))
       go false e = refl
 

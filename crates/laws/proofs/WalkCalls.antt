@@ -9,7 +9,8 @@ use lib.Dec.{T, eqb}
 use lib.ListN.{length, getD, set, length-set, replicate, length-replicate}
 use Rattle.rules.specs.Diagnostics.{bit}
 use Rattle.rules.specs.Count.{count}
-use Rattle.laws.proofs.Counts.{eqb-true, eqb-false, fresh, fresh-set, fresh-zeros}
+use Rattle.laws.specs.Left.{fresh}
+use Rattle.laws.proofs.Counts.{eqb-true, eqb-false, fresh-set, fresh-zeros}
 use Rattle.rules.specs.Graph.{Graph}
 use Rattle.laws.proofs.Chains.{Good}
 use Rattle.rules.specs.Walk.{Out, still, join, flagged, seen, finished, fieldOut, fieldsOut, visitOut, itemOut, itemsOut, sortOut}

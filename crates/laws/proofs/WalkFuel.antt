@@ -7,7 +7,8 @@ use Prim.Native.Nat.{ℕ, zero, suc, _≤_, _<_}
 use native.Mathlib.Omega.{arith}
 use lib.Dec.{eqb}
 use lib.ListN.{length, getD, set, length-set}
-use Rattle.laws.proofs.Counts.{eqb-true, eqb-false, fresh, fresh-set, fresh-set-le}
+use Rattle.laws.specs.Left.{fresh}
+use Rattle.laws.proofs.Counts.{eqb-true, eqb-false, fresh-set, fresh-set-le}
 use Rattle.rules.specs.Graph.{Graph}
 use Rattle.laws.proofs.Chains.{Good}
 use Rattle.rules.specs.Walk.{Out, still, join, flagged, seen, finished, fieldOut, fieldsOut, visitOut}

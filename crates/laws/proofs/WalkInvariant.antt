@@ -11,7 +11,8 @@ use lib.Dec.{T, eqb}
 use lib.ListN.{length, getD, set, replicate, length-set, length-append, length-replicate}
 use lib.Seq.{getD-set-same, getD-set-other}
 use Rattle.rules.specs.Count.{count, place}
-use Rattle.laws.proofs.Counts.{Eq?, same, other, eq?, eqb-true, eqb-false, count-snoc-same, count-snoc-other, place-lt, place-append, place-new, fresh}
+use Rattle.laws.specs.Left.{fresh}
+use Rattle.laws.proofs.Counts.{Eq?, same, other, eq?, eqb-true, eqb-false, count-snoc-same, count-snoc-other, place-lt, place-append, place-new}
 use Rattle.laws.proofs.Counts.{fresh-set, fresh-set-le, fresh-zeros}
 use Rattle.rules.specs.Graph.{Graph}
 use Rattle.laws.proofs.Chains.{Good, Edge, Chain, edge, Cycle}

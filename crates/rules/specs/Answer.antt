@@ -1,9 +1,8 @@
 -- What one call answers, and how it leaves the list and the scratch: document 01, "The call" and "Refused sheets".
 -- Assumes nothing: these are definitions.
-use Prim.Native.Nat.{ℕ, zero, suc}
+use Prim.Native.Nat.{ℕ, _-_}
 use mathlib.Core.List.{List, [], _∷_, _++_, map}
-use lib.ListN.{length, drop, replicate}
-use lib.Seq.{sets}
+use lib.ListN.{length, take, drop, replicate}
 use lib.Dec.{leb}
 use Rattle.rules.specs.declared.Step.{Step}
 use Rattle.rules.specs.declared.Step.the-variants.{Next, Refused}
@@ -37,6 +36,15 @@ abbrev pub positionOf : Verdict → ℕ
 positionOf verdict.Accepted = 0
 positionOf (verdict.Refused number position) = position
 
+-- the same of what the reader says: a refusal's own, 0 and 0 where there is none
+abbrev pub numberFor : Step → ℕ
+numberFor (Next _) = 0
+numberFor (Refused number position) = number
+
+abbrev pub positionFor : Step → ℕ
+positionFor (Next _) = 0
+positionFor (Refused number position) = position
+
 abbrev pub nameSet : Words → NameSet
 nameSet w = record { words = w }
 
@@ -63,7 +71,7 @@ setsOf t improper = t .structs ∷ t .enums ∷ t .cxx ∷ t .rust ∷ t .aliase
 
 -- 255 places: the list, and then zeros
 unfoldable pub places : List ℕ → List ℕ
-places l = sets (replicate 255 0) 0 l
+places l = take 255 l ++ replicate (255 - length l) 0
 
 unfoldable pub accepted : List ℕ → Types → Out → (report : List Diagnostic) → Answer
 accepted s t walk report =
@@ -84,9 +92,9 @@ accepted s t walk report =
 unfoldable pub readWith : (scratch : ℕ) → List ℕ → Step
 readWith n s = after (check (leb 4096 n) 1 0 0) (λ _. read s)
 
--- the first diagnostics that fit
+-- the first diagnostics that fit; the rest of the list is unchanged
 unfoldable pub filled : List Diagnostic → (report : List Diagnostic) → List Diagnostic
-filled list report = sets list 0 report
+filled list report = take (length list) report ++ drop (length report) list
 
 -- the first 4,096 bytes become 0
 unfoldable pub cleared : List ℕ → List ℕ

@@ -9,12 +9,12 @@ use Rattle.rules.specs.Format.{each, pairAt, offset, one, limited, orNon
 use Rattle.rules.specs.Names.{isAtom, isReserved, bitOf, _∋_, add, size, namesBelow}
 use Rattle.rules.specs.View.{items, flag1, flag2, flag4, orNothing, past, entry, entries, kind, is, rowName, rowFlags, inner, fnReturn, fnArgs, fnArgCount, fnArg, shown, itemPlace, itemKind, itemIs, isFunction, isType, itemName, lifetimesPlace, lifetimeCount, lifetime, derivesPlace, deriveCount, derive, rest, fieldCount, field, fields, enumRepr, enumExplicit, enumVariants, enumDefaults, typeTrusted, typeBounds, functionUnsafe, functionTrusted, functionUnwind, receiverPlace, form, isFree, isMethod, selfType, receiverMutable, receiverPinned, returnPlace, return, hasReturn, argCount, arg, args, implRow, implNegative}
 use Rattle.rules.specs.Collect.{namesTo, lastTo, entersStructs, entersEnums, entersCxx, entersRust, entersAliases, entersUntrusted, duplicateType, sameFunction, duplicateFunction, duplicate, duplicates, enter, visit, shownBy, collectedTo}
-use Rattle.rules.specs.Trivial.{insist, reasonsOfItem, reasonsOfRow, reasonNames, tally, reasonsOf, requiredOf}
+use Rattle.rules.specs.Trivial.{insist, reasonsOfItem, reasonsOfRow, reasonNames, reasonsOf, requiredOf}
 use Rattle.rules.specs.Types.{typesOf, structOf}
 use Rattle.rules.specs.Walk.{fieldOut, fieldsOut, visitOut, itemOut, itemsOut, sortOut}
 use Rattle.rules.specs.Order.{leadsTo, walkOf}
-use Rattle.rules.specs.Tiers.{tops, above, longest, tiersOf}
-use Rattle.rules.specs.Improper.{lookName, lookRow, looksFields, looksLook, found, passTo, search, improperOf}
+use Rattle.rules.specs.Tiers.{largest, above, longest, tiersOf}
+use Rattle.rules.specs.Improper.{lookName, lookRow, looksFields, looksLook, found, isNew, passTo, search, improperOf}
 use Rattle.rules.specs.Check.{check-reserved-name, check-reserved-lifetime, check-lifetimes, is-unsized-ident, is-unsized-within, is-unsized, describe-ident, describe, check-type-ident, check-type-box, check-type-rust-vec, check-type-unique-ptr, check-type-shared-ptr, check-type-weak-ptr, check-type-cxx-vector, requires-pin, check-type-ref, check-type-ptr, check-type-slice-ref, check-type-array, check-type-fn, no-check, type-checks, check-type, check-struct-derive, check-struct-field, check-api-struct, check-enum-derive, check-api-enum, check-opaque-derive, check-api-type, may-have-lifetimes, is-lifetime-mut, find-lifetime-mut, returns-mut, check-mut-return-restriction, check-fn-generics, check-fn-receiver, check-fn-self-type, check-fn-arg, check-fn-return, check-api-fn, check-api-type-alias, check-impl-self, check-api-impl, api-checks, check-api}
 use Rattle.rules.specs.Report.{reportOf, report}
 use Rattle.rules.specs.Answer.{refused, setsOf, places, accepted, readWith, filled, cleared, call}
@@ -26,7 +26,7 @@ bytes [] = []
 bytes (p ∷ ps) = p % 256 ∷ p / 256 ∷ bytes ps
 
 unfoldable pub computed : (sheet scratch : List ℕ) → List Diagnostic → Outcome
-unfolding onesIn if_then_else_ over some anyOf when each pairAt offset one limited orNone times list flagged signature rowKinds bodyOf row sameBytes equalRows fresh rowAt typeHead repr variants receivers receiver function itemKinds itemOf item itemAt read isAtom isReserved bitOf _∋_ add size namesBelow flag1 flag2 flag4 orNothing past entry entries kind is rowName rowFlags inner fnReturn fnArgs fnArgCount fnArg shown itemPlace itemKind itemIs isFunction isType itemName lifetimesPlace lifetimeCount lifetime derivesPlace deriveCount derive rest fieldCount field fields enumRepr enumExplicit enumVariants enumDefaults typeTrusted typeBounds functionUnsafe functionTrusted functionUnwind receiverPlace form isFree isMethod selfType receiverMutable receiverPinned returnPlace return hasReturn argCount arg args implRow implNegative namesTo lastTo entersStructs entersEnums entersCxx entersRust entersAliases entersUntrusted duplicateType sameFunction duplicateFunction duplicate duplicates enter visit shownBy collectedTo insist reasonsOfItem reasonsOfRow reasonNames tally reasonsOf requiredOf typesOf structOf fieldOut fieldsOut visitOut itemOut itemsOut sortOut leadsTo walkOf tops above longest tiersOf lookName lookRow looksFields looksLook found passTo search improperOf check-reserved-name check-reserved-lifetime check-lifetimes is-unsized-ident is-unsized-within is-unsized describe-ident describe check-type-ident check-type-box check-type-rust-vec check-type-unique-ptr check-type-shared-ptr check-type-weak-ptr check-type-cxx-vector requires-pin check-type-ref check-type-ptr check-type-slice-ref check-type-array check-type-fn no-check type-checks check-type check-struct-derive check-struct-field check-api-struct check-enum-derive check-api-enum check-opaque-derive check-api-type may-have-lifetimes is-lifetime-mut find-lifetime-mut returns-mut check-mut-return-restriction check-fn-generics check-fn-receiver check-fn-self-type check-fn-arg check-fn-return check-api-fn check-api-type-alias check-impl-self check-api-impl api-checks check-api reportOf report refused setsOf places accepted readWith filled cleared call
+unfolding onesIn if_then_else_ over some anyOf when each pairAt offset one limited orNone times list flagged signature rowKinds bodyOf row sameBytes equalRows fresh rowAt typeHead repr variants receivers receiver function itemKinds itemOf item itemAt read isAtom isReserved bitOf _∋_ add size namesBelow flag1 flag2 flag4 orNothing past entry entries kind is rowName rowFlags inner fnReturn fnArgs fnArgCount fnArg shown itemPlace itemKind itemIs isFunction isType itemName lifetimesPlace lifetimeCount lifetime derivesPlace deriveCount derive rest fieldCount field fields enumRepr enumExplicit enumVariants enumDefaults typeTrusted typeBounds functionUnsafe functionTrusted functionUnwind receiverPlace form isFree isMethod selfType receiverMutable receiverPinned returnPlace return hasReturn argCount arg args implRow implNegative namesTo lastTo entersStructs entersEnums entersCxx entersRust entersAliases entersUntrusted duplicateType sameFunction duplicateFunction duplicate duplicates enter visit shownBy collectedTo insist reasonsOfItem reasonsOfRow reasonNames reasonsOf requiredOf typesOf structOf fieldOut fieldsOut visitOut itemOut itemsOut sortOut leadsTo walkOf largest above longest tiersOf lookName lookRow looksFields looksLook found isNew passTo search improperOf check-reserved-name check-reserved-lifetime check-lifetimes is-unsized-ident is-unsized-within is-unsized describe-ident describe check-type-ident check-type-box check-type-rust-vec check-type-unique-ptr check-type-shared-ptr check-type-weak-ptr check-type-cxx-vector requires-pin check-type-ref check-type-ptr check-type-slice-ref check-type-array check-type-fn no-check type-checks check-type check-struct-derive check-struct-field check-api-struct check-enum-derive check-api-enum check-opaque-derive check-api-type may-have-lifetimes is-lifetime-mut find-lifetime-mut returns-mut check-mut-return-restriction check-fn-generics check-fn-receiver check-fn-self-type check-fn-arg check-fn-return check-api-fn check-api-type-alias check-impl-self check-api-impl api-checks check-api reportOf report refused setsOf places accepted readWith filled cleared call
 computed = call
 
 -- the rows that are collected of a sheet

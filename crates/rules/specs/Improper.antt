@@ -1,6 +1,6 @@
--- The search for improper structs as improper.rs and the end of `Types::collect` have it, pass after pass until one finds none; and what it is to find, over chains.
+-- The search for improper structs as improper.rs and the end of `Types::collect` have it, pass after pass until one finds none.
 -- Assumes nothing: these are definitions.
-use mathlib.Core.Bool.{Bool, true, false, _||_}
+use mathlib.Core.Bool.{Bool, true, false, not, _&&_, _||_}
 use mathlib.Core.List.{List}
 use Prim.Native.Nat.{ℕ, zero, suc}
 use lib.Dec.{eqb}
@@ -55,38 +55,34 @@ module _ (s : List ℕ) (t : Types) where
   abbrev pub looksOf : Looks
   looksOf = record { fields = looksFields; look = looksLook }
 
--- ## The search, over any kind of set of the names below n
+-- ## The search, by the improper names found so far
 
-module _ (S : Type 0) (has : S → ℕ → Bool) (add : S → ℕ → S) (g : Looks) (n : ℕ) where
-  abbrev pub hits : S → Look → Bool
-  hits s fine = false
-  hits s bad = true
-  hits s (to j) = has s j
+-- a field makes its struct improper: it is improper itself, or leads to one of those names
+abbrev pub hits : Words → Look → Bool
+hits w fine = false
+hits w bad = true
+hits w (to n) = w ∋ n
 
-  -- one of the first k fields of name i's last struct is improper
-  unfoldable pub found : S → (i k : ℕ) → Bool
-  found s i zero = false
-  found s i (suc k) = found s i k || hits s (g .look i k)
+module _ (g : Looks) where
+  -- one of the first k fields of name n's last struct does so
+  unfoldable pub found : Words → (n k : ℕ) → Bool
+  found w n zero = false
+  found w n (suc k) = found w n k || hits w (g .look n k)
 
-  abbrev pub attempt : Bool → Bool → S → ℕ → S × Bool
-  attempt true hit s i = (s, false)
-  attempt false true s i = (add s i, true)
-  attempt false false s i = (s, false)
+  -- name n is not in the set yet, and its last struct is improper
+  unfoldable pub isNew : Words → (n : ℕ) → Bool
+  isNew w n = not (w ∋ n) && found w n (g .fields n)
 
-  -- name i: what it makes of the set, and whether it is new in it
-  abbrev pub look : S → ℕ → S × Bool
-  look s i = attempt (has s i) (found s i (g .fields i)) s i
-
-  -- the names below k, in order; and whether one was found
-  unfoldable pub passTo : (k : ℕ) → S → S × Bool
-  passTo zero s = (s, false)
-  passTo (suc k) s = let r = passTo k s in let a = look (r .0) k in (a .0, r .1 || a .1)
+  -- one pass, over the names below k in order: each that is new enters; and whether one did
+  unfoldable pub passTo : (k : ℕ) → Words → Words × Bool
+  passTo zero w = (w, false)
+  passTo (suc k) w = let r = passTo k w in elim (isNew (r .0) k) [ true ↦ (add (r .0) k, true) | false ↦ r ]
 
   -- at most f passes
-  unfoldable pub search : (f : ℕ) → S → S
-  search zero s = s
-  search (suc f) s = let r = passTo n s in elim (r .1) [ true ↦ search f (r .0) | false ↦ r .0 ]
+  unfoldable pub search : (f : ℕ) → Words → Words
+  search zero w = w
+  search (suc f) w = let r = passTo 256 w in elim (r .1) [ true ↦ search f (r .0) | false ↦ r .0 ]
 
--- the improper names of a sheet
+-- the improper names of a sheet: each pass but the last finds one of 256, so 257 are enough
 unfoldable pub improperOf : List ℕ → Types → Words
-improperOf s t = search Words _∋_ add (looksOf s t) 256 257 empty
+improperOf s t = search (looksOf s t) 257 empty

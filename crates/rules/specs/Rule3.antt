@@ -6,15 +6,15 @@ use mathlib.Core.Path.{_≡_}
 use mathlib.Core.Logic.{_⊎_, _↔_}
 use mathlib.Core.List.{List, _∷_}
 use lib.Dec.{T}
-use lib.ListN.{length, getD, take}
-use Rattle.rules.specs.declared.Step.the-variants.{Next}
+use lib.ListN.{getD, take}
+use Rattle.rules.specs.declared.Verdict.the-variants.{Accepted}
 use Rattle.rules.specs.declared.Diagnostic.{Diagnostic}
 use Rattle.rules.specs.Diagnostics.{bit}
 use Rattle.rules.specs.Count.{count, place}
 use Rattle.rules.specs.Names.{Words, empty, _∋_, nameRustString}
 use Rattle.rules.specs.View.{Ident, RustBox, RustVec, Ref, Ptr, Str, SliceRef, Array, Fn, Void, kind, rowName, inner, Struct, RustType, TypeAlias, items, itemKind, itemName, itemIs, fieldCount, field}
 use Rattle.rules.specs.declared.Answer.{Answer}
-use Rattle.rules.specs.Answer.{nameSet, readWith, call}
+use Rattle.rules.specs.Answer.{nameSet, call}
 use Rattle.rules.specs.Report.{report}
 
 -- a list has an entry that
@@ -124,8 +124,8 @@ module _ (s : List ℕ) where
     pub no-more : (i : ℕ) → IsStruct i → (Endless i → ⊥) → (getD t i 0 ≡ 0) ⊎ ((k : ℕ) × Holds i k × (getD t i 0 ≡ min 254 (suc (getD t k 0))))
     pub others : (i : ℕ) → (IsStruct i → ⊥) → getD t i 0 ≡ 0
 
--- what holds of each call that is answered accepted: proofs/Due.antt
+-- what holds of each call that is answered accepted: laws/proofs/Due.antt
 abbrev pub Due : Type 0
 Due =
-    (s scratch : List ℕ) (list : List Diagnostic) (e : ℕ) → readWith (length scratch) s ≡ Next e
+    (s scratch : List ℕ) (list : List Diagnostic) → call s scratch list .answer .verdict ≡ Accepted
     → Rule3 s (call s scratch list .answer) (report s) × Tiers3 s (call s scratch list .answer .tiers)

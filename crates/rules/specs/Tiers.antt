@@ -8,14 +8,14 @@ use lib.ListN.{getD, replicate}
 use Rattle.rules.specs.Base.{over}
 use Rattle.rules.specs.Graph.{Graph}
 
--- the largest of `h (f j)` over the items j to which the first k fields of item i lead; 0 where none leads
-unfoldable pub tops : (ℕ → ℕ) → (ℕ → ℕ) → Graph → (i k : ℕ) → ℕ
-tops h f G i zero = 0
-tops h f G i (suc k) = let t = tops h f G i k in elim (eqb (G .to i k) 255) [ true ↦ t | false ↦ max t (h (f (G .to i k))) ]
+-- the largest f of the items to which the first k fields of item i lead; 0 where none leads
+unfoldable pub largest : (f : ℕ → ℕ) → Graph → (i k : ℕ) → ℕ
+largest f G i zero = 0
+largest f G i (suc k) = let m = largest f G i k in elim (eqb (G .to i k) 255) [ true ↦ m | false ↦ max m (f (G .to i k)) ]
 
 -- one more than the largest that item i holds, by a table; 0 without edges, and for what is no struct item
 unfoldable pub above : Graph → List ℕ → (i : ℕ) → ℕ
-above G t i = elim (G .struct i) [ true ↦ tops (λ m. suc m) (λ j. getD t j 0) G i (G .fields i) | false ↦ 0 ]
+above G t i = elim (G .struct i) [ true ↦ largest (λ j. suc (getD t j 0)) G i (G .fields i) | false ↦ 0 ]
 
 -- of each of n items, the longest chain from it, counted up to k edges
 unfoldable pub longest : Graph → (n k : ℕ) → List ℕ

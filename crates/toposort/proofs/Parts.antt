@@ -13,7 +13,8 @@ use lib.Seq.{sets}
 use Rattle.rules.specs.Graph.{Graph}
 use Rattle.rules.specs.Walk.{Out, still, join, fieldOut, fieldsOut, visitOut, itemOut, itemsOut}
 use Rattle.laws.proofs.Tests.{both, holds}
-use Rattle.laws.proofs.Counts.{fresh, fresh-set, fresh-set-le}
+use Rattle.laws.specs.Left.{fresh}
+use Rattle.laws.proofs.Counts.{fresh-set, fresh-set-le}
 use Rattle.laws.proofs.Chains.{Good}
 use Rattle.errors.specs.Sink.{also, none}
 use Rattle.toposort.specs.declared.Walk.{Walk}

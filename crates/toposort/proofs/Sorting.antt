@@ -1,7 +1,7 @@
 -- The turns of the code's loop over the items, and the answer of `sort`.
 -- Assumes nothing.
 use Prim.Native.Nat.{ℕ, _+_, _≤_, _<_}
-use mathlib.Core.Path.{_≡_, ap, subst, _∙_}
+use mathlib.Core.Path.{_≡_, sym, ap, subst, _∙_}
 use mathlib.Core.Bool.{true, false}
 use mathlib.Core.List.{List}
 use native.Mathlib.Numerals.{add-one}
@@ -13,7 +13,9 @@ use Rattle.rules.specs.Graph.{Graph}
 use Rattle.rules.specs.Walk.{itemOut, itemsOut, sortOut}
 use Rattle.rules.specs.Order.{graphOf, walkOf}
 use Rattle.rules.specs.Answer.{places}
-use Rattle.laws.proofs.Counts.{fresh, fresh-zeros}
+use Rattle.laws.specs.Left.{fresh}
+use Rattle.laws.proofs.Counts.{fresh-zeros}
+use Rattle.laws.proofs.Lists.{places-sets}
 use Rattle.laws.proofs.Accepted.{fits}
 use Rattle.errors.specs.declared.Errors.{Errors}
 use Rattle.toposort.specs.declared.Walk.{Walk}
@@ -71,8 +73,9 @@ module _ {G : Graph} (lim : Bounded G) {b : List ℕ} {cx : Errors} {i : ℕ} {b
 
 pub sorted : (s : List ℕ) → Accepted s → {b : List ℕ} {cx : Errors} {i : ℕ} {b′ : List ℕ} {v : Walk} → Sorting (graphOf s (typesOf s)) b cx i b′ v → 255 ≤ i
     → Sorts s b cx (record { order = v .order; len = v .len; calls = v .calls; errors = v .errors }) b′
-unfolding walkOf sortOut places
+unfolding walkOf sortOut
 sorted s acc {b} {cx} {i} {b′} {v} g h =
     let e : i ≡ 255 = omega (arith, g .upto) in
     let d = subst (λ (x : ℕ). Did b (begun cx) (itemsOut 256 (graphOf s (typesOf s)) x (replicate 255 0)) v b′) e (g .did) in
-    record { order = d .order; len = d .len ∙ omega arith; calls = d .calls ∙ omega arith; errors = d .errors; rule = rw (d .order) (walk-rule s (fits s acc)) }
+    let order : v .order ≡ places (walkOf s (typesOf s) .sorted) = d .order ∙ sym (places-sets (walkOf s (typesOf s) .sorted)) in
+    record { order = order; len = d .len ∙ omega arith; calls = d .calls ∙ omega arith; errors = d .errors; rule = rw order (walk-rule s (fits s acc)) }

@@ -16,7 +16,7 @@ use Rattle.rules.specs.Types.{typesOf}
 use Rattle.rules.specs.Graph.{Graph}
 use Rattle.rules.specs.Walk.{sortOut}
 use Rattle.rules.specs.Order.{graphOf, walkOf}
-use Rattle.rules.specs.Tiers.{tops, tiersOf}
+use Rattle.rules.specs.Tiers.{largest, tiersOf}
 use Rattle.rules.specs.Answer.{places}
 use Rattle.laws.proofs.Tests.{both, holds}
 use Rattle.laws.proofs.Counts.{count-get}
@@ -25,8 +25,8 @@ use Rattle.laws.proofs.LastItems.{good-items}
 use Rattle.laws.proofs.Accepted.{fits}
 use Rattle.laws.proofs.WalkOrder.{each-once}
 use Rattle.laws.proofs.WalkCalls.{order-few}
-use Rattle.laws.proofs.LongestChain.{up}
-use Rattle.laws.proofs.TierPass.{tierFrom, tiersTo, startTo, passOf, pass-front, pass-is}
+use Rattle.laws.specs.TierPass.{up, tierFrom, tiersTo, startTo, passOf}
+use Rattle.laws.proofs.TierPass.{pass-front, pass-is}
 use Rattle.laws.proofs.Rule3Order.{tiers-are}
 use Rattle.toposort.specs.Post.{Ordered, Tiered}
 use Rattle.toposort.proofs.Edges.{whole}
@@ -44,14 +44,14 @@ up-low t ne h l = rw (ne-eqb t 255 ne) (omega arith)
 
 -- ## The fields of an item
 
-module _ (f : ℕ → ℕ) (G : Graph) (i k best : ℕ) (h : best ≡ tops up f G i k) where
-  pub tops-none : G .to i k ≡ 255 → best ≡ tops up f G i (k + 1)
-  unfolding tops
-  tops-none e = rw (add-one, tops, eq-eqb (G .to i k) 255 e) h
+module _ (f : ℕ → ℕ) (G : Graph) (i k best : ℕ) (h : best ≡ largest f G i k) where
+  pub largest-none : G .to i k ≡ 255 → best ≡ largest f G i (k + 1)
+  unfolding largest
+  largest-none e = rw (add-one, largest, eq-eqb (G .to i k) 255 e) h
 
-  pub tops-more : (e u next : ℕ) → e ≡ G .to i k → e ≢ 255 → u ≡ up (f e) → next ≡ max best u → next ≡ tops up f G i (k + 1)
-  unfolding tops
-  tops-more e u next p ne q r = rw (add-one, tops, ne-eqb (G .to i k) 255 (λ z. ne (p ∙ z)), r, q, p, h)
+  pub largest-more : (e u next : ℕ) → e ≡ G .to i k → e ≢ 255 → u ≡ f e → next ≡ max best u → next ≡ largest f G i (k + 1)
+  unfolding largest
+  largest-more e u next p ne q r = rw (add-one, largest, ne-eqb (G .to i k) 255 (λ z. ne (p ∙ z)), r, q, p, h)
 
 -- ## Before the pass
 

@@ -14,7 +14,8 @@ use Rattle.rules.specs.declared.Place.the-variants.{F}
 use Rattle.rules.specs.Diagnostics.{say, when}
 use Rattle.rules.specs.Graph.{Graph}
 use Rattle.rules.specs.Walk.{Out, finished, fieldOut, fieldsOut, visitOut}
-use Rattle.laws.proofs.Counts.{fresh, fresh-set}
+use Rattle.laws.specs.Left.{fresh}
+use Rattle.laws.proofs.Counts.{fresh-set}
 use Rattle.errors.specs.declared.Errors.{Errors}
 use Rattle.errors.specs.Sink.{Reported, also, none, meant}
 use Rattle.toposort.specs.declared.Walk.{Walk}

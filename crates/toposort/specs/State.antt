@@ -7,7 +7,7 @@ use lib.ListN.{length}
 use lib.Seq.{sets}
 use Rattle.rules.specs.Graph.{Graph}
 use Rattle.rules.specs.Walk.{Out, visitOut}
-use Rattle.laws.proofs.Counts.{fresh}
+use Rattle.laws.specs.Left.{fresh}
 use Rattle.errors.specs.Sink.{Reported}
 use Rattle.toposort.specs.declared.Walk.{Walk}
 

@@ -14,7 +14,8 @@ use borrow.Author.Tests.{eq-eqb, ne-eqb, eqb-true, eqb-false}
 use Rattle.rules.specs.Base.{over, some, anyOf}
 use Rattle.rules.specs.Names.{Words, bitOf, add, _∋_}
 use Rattle.laws.specs.Skip.{seen}
-use Rattle.laws.proofs.Counts.{Eq?, same, other, eq?, free, free-one}
+use Rattle.laws.specs.Left.{free}
+use Rattle.laws.proofs.Counts.{Eq?, same, other, eq?, free-one}
 use Rattle.laws.proofs.Lists.{zeros-get}
 use Rattle.laws.proofs.NameSets.{has-add}
 use Rattle.laws.proofs.Tests.{both}

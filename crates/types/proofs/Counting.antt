@@ -1,23 +1,28 @@
 -- Reasons are counted one list after another; a list of reasons by the tests that the code makes; and where a sheet's reasons are few enough, the counts that
 -- stop are the rules' own.
 -- Assumes nothing.
-use Prim.Native.Nat.{ℕ, _+_, _<_}
+use Prim.Native.Nat.{ℕ, _+_, _≤_, _<_}
 use mathlib.Core.Path.{_≡_, refl, sym, ap, _∙_}
 use mathlib.Core.Bool.{Bool, true, false, not, _&&_, _||_}
 use mathlib.Core.List.{List, [], _∷_, _++_}
 use native.Mathlib.Omega.{arith}
 use native.Mathlib.Numerals.{add-one}
 use native.Mathlib.Decide.{decLt}
-use lib.ListN.{length, getD, set}
+use lib.ListN.{length, getD, set, replicate, length-set, length-replicate}
+use lib.Seq.{ext-getD, set-out, getD-set-same, getD-set-other}
 use lib.Dec.{ltb, eqb}
-use borrow.Author.Tests.{eq-eqb, ne-eqb}
+use borrow.Author.Tests.{lt-ltb, eq-eqb, ne-eqb}
 use Rattle.rules.specs.Base.{if_then_else_, over}
+use Rattle.rules.specs.Count.{count}
 use Rattle.rules.specs.Format.{pairAt}
 use Rattle.rules.specs.Names.{Words, add, namesBelow, _∋_}
 use Rattle.rules.specs.View.{Ident, RustBox, RustVec, SliceRef, kind, is, rowName, inner, entry, itemKind}
 use Rattle.rules.specs.View.{itemIs, isFunction, rest, fieldCount, field, returnPlace, hasReturn, return, argCount, arg}
-use Rattle.rules.specs.Trivial.{insist, reasonsOfItem, reasonsOfRow, requiredOf}
+use Rattle.rules.specs.Trivial.{insist, reasonsOfItem, reasonsOfRow, reasonsOf, requiredOf}
+use Rattle.laws.proofs.Counts.{Eq?, same, other, eq?}
 use Rattle.laws.proofs.Tests.{never, both-are}
+use Rattle.laws.proofs.Lists.{zeros-get}
+use Rattle.laws.proofs.Bounds.Reasons.{reasons-length, reasons-are}
 use Rattle.names.specs.Table.{wordsAt}
 use Rattle.names.proofs.Laws.{has-out}
 use Rattle.types.specs.Reasons.{oneMore, countAll, Counted, ofPlain, ofItem, ofRow, ReadyRequired, Required}
@@ -128,6 +133,48 @@ module _ (s sets : List ℕ) (i : ℕ) {k : ℕ} (is-kind : k ≡ itemKind s i) 
         → Counted u (if not (eqb x 65535) then ofPlain s sets x else []) v → Counted t (ofItem s sets i) v
     unfolding reasonsOfItem itemIs argCount arg hasReturn return if_then_else_
     item-function h e q p w = rw (no-struct, sym is-function ∙ h, ← e, ← q) (count-then p w)
+
+-- ## The counts are the rules'
+
+count-length : (ns t : List ℕ) → length (countAll t ns) ≡ length t
+unfolding countAll
+count-length [] t = refl
+count-length (n ∷ ns) t = count-length ns (set t n (oneMore (getD t n 0))) ∙ length-set t n (oneMore (getD t n 0))
+
+-- a count grows by as often as its name stands in the list, where the reasons are few enough
+count-is : (ns t : List ℕ) → ((n : ℕ) → getD t n 0 + length ns ≤ 65535) → (n : ℕ) → n < length t → getD (countAll t ns) n 0 ≡ getD t n 0 + count n ns
+unfolding countAll oneMore if_then_else_
+count-is [] t h n l = omega arith
+count-is (m ∷ ns) t h n l =
+    rw (lt-ltb (getD t m 0) 65535 (omega (arith, h m)), if_then_else_)
+    (here (eq? n m) (count-is ns more fewer n (let e = length-set t m (getD t m 0 + 1) in omega arith)))
+  where
+    more : List ℕ
+    more = set t m (getD t m 0 + 1)
+
+    fewer : (x : ℕ) → getD more x 0 + length ns ≤ 65535
+    fewer x = go (eq? x m) (decLt m (length t))
+      where
+        go : Eq? x m → Dec (m < length t) → getD more x 0 + length ns ≤ 65535
+        go e (no k) = rw (set-out t m (getD t m 0 + 1) (omega arith)) (omega (arith, h x))
+        go (same _ e) (yes k) = rw (e, getD-set-same t m (getD t m 0 + 1) 0 k) (omega (arith, h m))
+        go (other _ e) (yes k) = rw (getD-set-other t m x (getD t m 0 + 1) 0 e) (omega (arith, h x))
+
+    here : Eq? n m → getD (countAll more ns) n 0 ≡ getD more n 0 + count n ns → getD (countAll more ns) n 0 ≡ getD t n 0 + count n (m ∷ ns)
+    here (same e q) ih =
+        let z : getD more n 0 ≡ getD t n 0 + 1 = rw q (getD-set-same t m (getD t m 0 + 1) 0 (let k : m < length t = rw (← q) l in k)) in
+        rw e (omega arith)
+    here (other e q) ih = rw e (omega (arith, getD-set-other t m n (getD t m 0 + 1) 0 q))
+
+pub count-reasons : (ns : List ℕ) → length ns ≤ 65535 → countAll (replicate 256 0) ns ≡ reasonsOf ns
+count-reasons ns few =
+    ext-getD 0 (countAll (replicate 256 0) ns) (reasonsOf ns) (size ∙ sym (reasons-length ns))
+    (λ n l. count-is ns (replicate 256 0) (λ m. omega (arith, zeros-get 256 m)) n (omega (arith, size, length-replicate {A = ℕ} 256 0))
+    ∙ omega (arith, zeros-get 256 n)
+    ∙ sym (reasons-are ns n (omega (arith, size))))
+  where
+    size : length (countAll (replicate 256 0) ns) ≡ 256
+    size = count-length ns (replicate 256 0) ∙ length-replicate {A = ℕ} 256 0
 
 -- ## The names with a reason
 

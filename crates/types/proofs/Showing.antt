@@ -20,7 +20,7 @@ use Rattle.rules.specs.Types.{typesOf}
 use Rattle.laws.specs.Skip.{skipVisit, skipTo}
 use Rattle.laws.proofs.Tests.{or-is}
 use Rattle.laws.proofs.Collect.{all-skip}
-use Rattle.laws.proofs.Accepted.Steps.{RowOrNone}
+use Rattle.laws.specs.Kinds.{RowOrNone}
 use Rattle.laws.proofs.Accepted.Items.{item-of}
 use Rattle.laws.proofs.Collect.Shown.{shownBy-struct, shownBy-enum, shownBy-function, shownBy-impl, shownBy-other}
 use Rattle.types.specs.Scratch.{rowsOf, Grown, Held, Walks}

@@ -14,10 +14,10 @@ use Rattle.rules.specs.Format.{pairAt, offset, Accepted}
 use Rattle.rules.specs.View.{Fn, rows, kind, inner, fnArgs, fnArgCount, fnArg, shown, entry, entries, orNothing}
 use Rattle.laws.specs.Skip.{skipVisit}
 use Rattle.laws.proofs.Accepted.Sheet.{sheet-of}
-use Rattle.laws.proofs.Accepted.Steps.{RowOrNone}
+use Rattle.laws.specs.Kinds.{leaf, RowOrNone}
 use Rattle.laws.proofs.Accepted.Rows.{RowOf}
 use Rattle.laws.proofs.Members.{in-head}
-use Rattle.laws.proofs.Collect.Shown.{leaf, shown-inner, shown-falls}
+use Rattle.laws.proofs.Collect.Shown.{shown-inner, shown-falls}
 use Rattle.types.specs.Scratch.{rowsOf, marked, Holds, Grown, Held, Ready, Walks}
 use Rattle.types.proofs.Stored.{holds-self}
 

@@ -1,36 +1,34 @@
 -- The whole of `collect`: the cleared scratch to begin with, the tables to begin with, and that what the parts leave is what the rules say of the sheet.
 -- Assumes nothing.
-use Prim.Native.Nat.{ℕ, _+_, _*_, _/_, _-_, _<_, _≤_}
+use Prim.Native.Nat.{ℕ, _+_, _*_, _/_, _-_}
 use mathlib.Core.Path.{_≡_, refl, sym, ap, _∙_}
-use mathlib.Core.List.{List, [], _∷_, _++_}
+use mathlib.Core.List.{List, [], _++_}
 use native.Mathlib.Omega.{arith}
 use native.Mathlib.Nat.{zero-div}
-use native.Mathlib.Decide.{decLt}
-use lib.ListN.{length, getD, set, drop, replicate, length-drop}
-use lib.Seq.{getD-drop, ext-getD, getD-set-same, getD-set-other, set-out}
-use borrow.Author.Tests.{lt-ltb}
-use Rattle.rules.specs.Base.{if_then_else_, over, anyOf}
+use lib.ListN.{length, getD, drop, replicate, length-drop}
+use lib.Seq.{getD-drop, ext-getD}
+use Rattle.rules.specs.Base.{over, anyOf}
 use Rattle.rules.specs.Format.{pairAt, Accepted}
 use Rattle.rules.specs.Names.{Words, bitOf}
 use Rattle.rules.specs.View.{items}
 use Rattle.rules.specs.Collect.{namesTo, lastTo, entersStructs, entersEnums, collectedTo}
-use Rattle.rules.specs.Trivial.{reasonsOfItem, reasonsOfRow, reasonNames, tally, reasonsOf, requiredOf}
+use Rattle.rules.specs.Trivial.{reasonsOfItem, reasonsOfRow, reasonNames, reasonsOf, requiredOf}
 use Rattle.rules.specs.Types.{typesOf}
 use Rattle.rules.specs.Answer.{cleared}
 use Rattle.laws.specs.Skip.{seen}
-use Rattle.laws.proofs.Counts.{free-le, Eq?, same, other, eq?}
-use Rattle.laws.proofs.Lists.{zeros-get}
+use Rattle.laws.proofs.Counts.{free-le}
 use Rattle.laws.proofs.Collect.{all-few}
 use Rattle.laws.proofs.Bounds.Reasons.{names-few}
 use Rattle.names.specs.Table.{wordAt, wordsAt}
 use Rattle.errors.specs.declared.Errors.{Errors}
 use Rattle.types.specs.Scratch.{rowsOf, marked, Holds, Grown, Held}
 use Rattle.types.specs.Named.{Named, ReadyTables, Declared}
-use Rattle.types.specs.Reasons.{oneMore, countAll, Counted, ofItem, ofRow, Required}
+use Rattle.types.specs.Reasons.{countAll, Counted, ofItem, ofRow, Required}
 use Rattle.types.specs.Post.{Collectable, Collects}
 use Rattle.types.proofs.AboutRules.{over-same}
 use Rattle.types.proofs.Zeroed.{cleared-length, cleared-at}
 use Rattle.types.proofs.Stored.{holds-length, holds-row}
+use Rattle.types.proofs.Counting.{count-reasons}
 
 -- ## The start
 
@@ -60,20 +58,6 @@ tables-none acc =
 
 -- ## The reasons
 
--- counts that stop are the rules', where the reasons are few enough
-count-tally : (ns t : List ℕ) → ((n : ℕ) → getD t n 0 + length ns ≤ 65535) → countAll t ns ≡ tally t ns
-unfolding countAll tally oneMore if_then_else_
-count-tally [] t h = refl
-count-tally (n ∷ ns) t h = rw (lt-ltb (getD t n 0) 65535 (omega (arith, h n)), if_then_else_) (count-tally ns (set t n (getD t n 0 + 1)) fewer)
-  where
-    fewer : (m : ℕ) → getD (set t n (getD t n 0 + 1)) m 0 + length ns ≤ 65535
-    fewer m = go (eq? m n) (decLt n (length t))
-      where
-        go : Eq? m n → Dec (n < length t) → getD (set t n (getD t n 0 + 1)) m 0 + length ns ≤ 65535
-        go e (no l) = rw (set-out t n (getD t n 0 + 1) (omega arith)) (omega (arith, h m))
-        go (same _ e) (yes l) = rw (e, getD-set-same t n (getD t n 0 + 1) 0 l) (omega (arith, h n))
-        go (other _ e) (yes l) = rw (getD-set-other t n m (getD t n 0 + 1) 0 e) (omega (arith, h m))
-
 -- the reasons of items and of the rows that d holds, by any three sets
 abbrev namesBy : (s d : List ℕ) (m : ℕ) (structs enums cxx : Words) → List ℕ
 namesBy s d m x y z = over (items s) (reasonsOfItem s x y z) ++ over m (λ k. reasonsOfRow s x y z (pairAt d (2 * k)))
@@ -89,11 +73,9 @@ module _ {s b d : List ℕ} {m : ℕ} (acc : Accepted s) (grown : Grown b d m (t
       (λ k l. ap (reasonsOfRow s x y z) (holds-row (grown .held) k l))))
 
   reasons-by : (x y z : Words) {t : List ℕ} → Counted (replicate 256 0) (namesBy s d m x y z) t → t ≡ reasonsOf (reasonNames s x y z (typesOf s .all))
-  unfolding reasonsOf
   reasons-by x y z h =
       let few = names-few s x y z acc (typesOf s .all) (all-few s acc) in
-      h .is ∙ ap (countAll (replicate 256 0)) (names-are x y z)
-      ∙ count-tally (reasonNames s x y z (typesOf s .all)) (replicate 256 0) (λ n. omega (arith, zeros-get 256 n))
+      h .is ∙ ap (countAll (replicate 256 0)) (names-are x y z) ∙ count-reasons (reasonNames s x y z (typesOf s .all)) (omega arith)
 
   pub reasons-are : {sets t : List ℕ} → Named s (items s) sets
       → Counted (replicate 256 0) (over (items s) (ofItem s sets) ++ over m (λ k. ofRow s sets (pairAt d (2 * k)))) t

@@ -20,7 +20,7 @@ mostReasons = 65535
 unfoldable pub oneMore : ℕ → ℕ
 oneMore x = if ltb x mostReasons then x + 1 else x
 
--- the rules' `tally`, with counts that stop
+-- a table of counts, with one more for each name of a list
 unfoldable pub countAll : List ℕ → List ℕ → List ℕ
 countAll t [] = t
 countAll t (n ∷ ns) = countAll (set t n (oneMore (getD t n 0))) ns

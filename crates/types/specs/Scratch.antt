@@ -11,8 +11,8 @@ use Rattle.rules.specs.Format.{pairAt, Accepted}
 use Rattle.rules.specs.Names.{bitOf}
 use Rattle.rules.specs.View.{Fn, rows, kind, fnReturn, fnArgs, orNothing, entry, items, isFunction, args, return}
 use Rattle.laws.specs.Skip.{seen, skipVisit}
-use Rattle.laws.proofs.Counts.{free}
-use Rattle.laws.proofs.Accepted.Steps.{RowOrNone}
+use Rattle.laws.specs.Left.{free}
+use Rattle.laws.specs.Kinds.{RowOrNone}
 
 -- ## What it holds
 

@@ -8,7 +8,7 @@ ghost use lib.ListN.{length, getD, set};
 ghost use Rattle.rules.specs.View.{rows, orNothing, entries};
 ghost use Rattle.rules.specs.Collect.{shownBy};
 ghost use Rattle.rules.specs.Types.{typesOf};
-ghost use Rattle.laws.proofs.Collect.Shown.{leaf};
+ghost use Rattle.laws.specs.Kinds.{leaf};
 ghost use Rattle.types.specs.Scratch.{
   rowsOf,
   marked,

@@ -9,7 +9,7 @@ use borrow.Author.Needs.{needs}
 use Rattle.rules.specs.View.{Ident, kind}
 use Rattle.rules.specs.Types.{typesOf}
 use Rattle.rules.specs.Improper.{definite}
-use Rattle.laws.proofs.Fuel.{isThrough}
+use Rattle.laws.specs.Kinds.{isThrough}
 use Rattle.improper.specs.Looks.{lookOf, improperKind}
 use Rattle.improper.proofs.RowLooks.{inner-falls, row-named, row-through, row-definite, few-rows}
 use Rattle.improper.proofs.look_row.Statement.{statement}

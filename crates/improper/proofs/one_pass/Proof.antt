@@ -11,11 +11,11 @@ use borrow.Author.Needs.{needs}
 use Rattle.rules.specs.declared.NameSet.{NameSet}
 use Rattle.rules.specs.View.{rows}
 use Rattle.rules.specs.Types.{typesOf}
-use Rattle.rules.specs.Improper.{looksFields, looksLook}
+use Rattle.rules.specs.Improper.{looksFields, looksLook, hits}
 use Rattle.improper.specs.Looks.{lookOf}
 use Rattle.improper.specs.Post.{Passes}
 use Rattle.improper.proofs.RowLooks.{few-rows}
-use Rattle.improper.proofs.PassTurns.{hitsIn, foundIn, fields-none, item-below, fields-are, fields-few, row-below, look-is}
+use Rattle.improper.proofs.PassTurns.{foundIn, fields-none, item-below, fields-are, fields-few, row-below, look-is}
 use Rattle.improper.proofs.PassTurns.{found-start, found-on, found-hit, passes-none, passes-had, passes-not, passes-new}
 use Rattle.improper.proofs.one_pass.Statement.{statement}
 use Rattle.improper.proofs.one_pass.Tie as tie
@@ -199,8 +199,8 @@ module _ (c : tie.After-hits Inv-loop μ-loop Inv-structs μ-structs) where
   abbrev words : List ℕ
   words = c .before .before .before .before .loop .names .words
 
-  hit-is : c .hits .result ≡ hitsIn (sheet q) words (looksLook (sheet q) (typesOf (sheet q)) (name q) (c .before .before .before .before .loop .k))
-  hit-is = c .hits .ensures (sheet q) ∙ ap (hitsIn (sheet q) words) (looked (c .before .before))
+  hit-is : c .hits .result ≡ hits words (looksLook (sheet q) (typesOf (sheet q)) (name q) (c .before .before .before .before .loop .k))
+  hit-is = c .hits .ensures ∙ ap (hits words) (looked (c .before .before))
 
 insert-requires : tie.Need-insert-requires Inv-loop μ-loop Inv-structs μ-structs
 insert-requires c κs = search needs
@@ -221,7 +221,7 @@ structs-again-4 c =
     let l = c14 .structs in
     let h = c6 .loop .inv in
     let look = looksLook s (typesOf s) (l .n) (c6 .loop .k) in
-    let hit = subst (λ (x : NameSet). hitsIn s (x .words) look ≡ true) (h .0) (sym (hit-is c2) ∙ c .before .if3 .taken) in
+    let hit = subst (λ (x : NameSet). hits (x .words) look ≡ true) (h .0) (sym (hit-is c2) ∙ c .before .if3 .taken) in
     let f = found-hit s (l .names .words) (l .n) (c6 .loop .k) _ (inside c4) hit in
     (omega arith, rw (c .insert .ensures, h .0) (passes-new _ _ _ _ _ (l .inv .1) (sym (c12 .contains .ensures) ∙ c11 .if1 .left) f))
 

@@ -4,7 +4,8 @@
 use Prim.Native.Nat.{_+_}
 use borrow.Author.Needs.{needs}
 use Rattle.rules.specs.Diagnostics.{bit}
-use Rattle.improper.proofs.Passes.{left, Searching, searching-start, searching-on, searching-less, searched}
+use Rattle.laws.proofs.ImproperSearch.{left}
+use Rattle.improper.proofs.Passes.{Searching, searching-start, searching-on, searching-less, searched}
 use Rattle.improper.proofs.search.Statement.{statement}
 use Rattle.improper.proofs.search.Tie as tie
 

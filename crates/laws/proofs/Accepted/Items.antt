@@ -16,7 +16,8 @@ use Rattle.rules.specs.View.{Ident, rows, kind, Struct, Enum, CxxType, RustType
 use Rattle.rules.specs.View.{itemIs, isType, isFunction, itemName, past, lifetimesPlace, lifetimeCount, lifetime, derivesPlace, deriveCount, derive, rest}
 use Rattle.rules.specs.View.{fieldCount, field, enumRepr, enumVariants, enumDefaults, receiverPlace, form, selfType, returnPlace, return, argCount, arg}
 use Rattle.rules.specs.View.{implRow}
-use Rattle.laws.proofs.Accepted.Steps.{after-is, Reads, _then_, nothing-read, RowOrNone, ListAt, HeadAt, ReceiverAt, limited-reads, orNone-reads}
+use Rattle.laws.specs.Kinds.{RowOrNone}
+use Rattle.laws.proofs.Accepted.Steps.{after-is, Reads, _then_, nothing-read, ListAt, HeadAt, ReceiverAt, limited-reads, orNone-reads}
 use Rattle.laws.proofs.Accepted.Steps.{list-reads, head-reads, repr-reads, variants-reads, receiver-reads}
 use Rattle.laws.proofs.Accepted.Sheet.{bodies-of}
 use Rattle.laws.proofs.Tests.{never, or-is}

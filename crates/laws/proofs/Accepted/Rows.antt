@@ -1,7 +1,7 @@
 -- The type rows of an accepted sheet, by kinds: each refers to smaller rows only.
 -- Assumes nothing.
 use Prim.Native.Nat.{ℕ, zero, suc, _+_, _*_, _≤_, _<_}
-use mathlib.Core.Path.{_≡_, refl, sym, _∙_}
+use mathlib.Core.Path.{_≡_, refl, sym, ap, _∙_}
 use mathlib.Core.List.{List, [], _∷_}
 use mathlib.Core.Bool.{Bool, true, false}
 use native.Mathlib.Omega.{arith}
@@ -12,7 +12,8 @@ use Rattle.rules.specs.declared.Step.the-variants.{Next}
 use Rattle.rules.specs.Base.{if_then_else_}
 use Rattle.rules.specs.Format.{end, pairAt, offset, limited, flagged, signature, rowKinds, bodyOf, row, Accepted}
 use Rattle.rules.specs.View.{Ident, Ref, Ptr, SliceRef, Fn, rows, kind, rowName, rowFlags, inner, fnReturn, fnArgCount, fnArg, past}
-use Rattle.laws.proofs.Accepted.Steps.{after-is, Reads, _then_, nothing-read, RowOrNone, ListAt, limited-reads, orNone-reads, list-reads}
+use Rattle.laws.specs.Kinds.{RowOrNone}
+use Rattle.laws.proofs.Accepted.Steps.{after-is, Reads, _then_, nothing-read, ListAt, limited-reads, orNone-reads, list-reads}
 use Rattle.laws.proofs.Accepted.Sheet.{bodies-of}
 use Rattle.laws.proofs.Tests.{never}
 
@@ -60,30 +61,31 @@ module _ (s : List ℕ) (r : ℕ) where
             ((a .1 .0, rw (a .1 .1) at (a .2 .0)), omega (arith, a .1 .1, a .2 .1));
       }
 
-  -- the five shapes that a body has, by its kind
-  data Shape (k : ℕ) : Type 0 where
-    named : hasInner k ≡ false → bodyOf s r k ≡ limited s 6 256 → Shape k
-    near : k ≤ 6 → bodyOf s r k ≡ limited s 7 r → Shape k
-    far : (n : ℕ) → 6 < k → bodyOf s r k ≡ flagged s n r → Shape k
-    bare : hasInner k ≡ false → bodyOf s r k ≡ end → Shape k
-    fn : hasInner k ≡ false → bodyOf s r k ≡ signature s r → Shape k
+-- the five shapes that a row's body has, by its kind
+module _ (s : List ℕ) where
+  pub data Shape (k : ℕ) : Type 0 where
+    named : k ≡ Ident → ((r : ℕ) → bodyOf s r k ≡ limited s 6 256) → Shape k
+    near : hasInner k ≡ true → k ≤ 6 → ((r : ℕ) → bodyOf s r k ≡ limited s 7 r) → Shape k
+    far : (n : ℕ) → hasInner k ≡ true → 6 < k → ((r : ℕ) → bodyOf s r k ≡ flagged s n r) → Shape k
+    bare : hasInner k ≡ false → ((r : ℕ) → bodyOf s r k ≡ end) → Shape k
+    fn : k ≡ Fn → ((r : ℕ) → bodyOf s r k ≡ signature s r) → Shape k
 
-  shape : (k : ℕ) → k < 14 → Shape k
+  pub shape : (k : ℕ) → k < 14 → Shape k
   unfolding bodyOf rowKinds
-  shape zero l = named refl refl
-  shape (suc zero) l = near (omega arith) refl
-  shape (suc (suc zero)) l = near (omega arith) refl
-  shape (suc (suc (suc zero))) l = near (omega arith) refl
-  shape (suc (suc (suc (suc zero)))) l = near (omega arith) refl
-  shape (suc (suc (suc (suc (suc zero))))) l = near (omega arith) refl
-  shape (suc (suc (suc (suc (suc (suc zero)))))) l = near (omega arith) refl
-  shape (suc (suc (suc (suc (suc (suc (suc zero))))))) l = far 4 (omega arith) refl
-  shape (suc (suc (suc (suc (suc (suc (suc (suc zero)))))))) l = far 2 (omega arith) refl
-  shape (suc (suc (suc (suc (suc (suc (suc (suc (suc zero))))))))) l = bare refl refl
-  shape (suc (suc (suc (suc (suc (suc (suc (suc (suc (suc zero)))))))))) l = far 2 (omega arith) refl
-  shape (suc (suc (suc (suc (suc (suc (suc (suc (suc (suc (suc zero))))))))))) l = far 65536 (omega arith) refl
-  shape (suc (suc (suc (suc (suc (suc (suc (suc (suc (suc (suc (suc zero)))))))))))) l = fn refl refl
-  shape (suc (suc (suc (suc (suc (suc (suc (suc (suc (suc (suc (suc (suc zero))))))))))))) l = bare refl refl
+  shape zero l = named refl (λ r. refl)
+  shape (suc zero) l = near refl (omega arith) (λ r. refl)
+  shape (suc (suc zero)) l = near refl (omega arith) (λ r. refl)
+  shape (suc (suc (suc zero))) l = near refl (omega arith) (λ r. refl)
+  shape (suc (suc (suc (suc zero)))) l = near refl (omega arith) (λ r. refl)
+  shape (suc (suc (suc (suc (suc zero))))) l = near refl (omega arith) (λ r. refl)
+  shape (suc (suc (suc (suc (suc (suc zero)))))) l = near refl (omega arith) (λ r. refl)
+  shape (suc (suc (suc (suc (suc (suc (suc zero))))))) l = far 4 refl (omega arith) (λ r. refl)
+  shape (suc (suc (suc (suc (suc (suc (suc (suc zero)))))))) l = far 2 refl (omega arith) (λ r. refl)
+  shape (suc (suc (suc (suc (suc (suc (suc (suc (suc zero))))))))) l = bare refl (λ r. refl)
+  shape (suc (suc (suc (suc (suc (suc (suc (suc (suc (suc zero)))))))))) l = far 2 refl (omega arith) (λ r. refl)
+  shape (suc (suc (suc (suc (suc (suc (suc (suc (suc (suc (suc zero))))))))))) l = far 65536 refl (omega arith) (λ r. refl)
+  shape (suc (suc (suc (suc (suc (suc (suc (suc (suc (suc (suc (suc zero)))))))))))) l = fn refl (λ r. refl)
+  shape (suc (suc (suc (suc (suc (suc (suc (suc (suc (suc (suc (suc (suc zero))))))))))))) l = bare refl (λ r. refl)
   shape (suc (suc (suc (suc (suc (suc (suc (suc (suc (suc (suc (suc (suc (suc k)))))))))))))) l = absurd (omega arith)
 
 -- ## Row r of an accepted sheet
@@ -128,14 +130,14 @@ module _ (s : List ℕ) (acc : Accepted s) (r : ℕ) (l : r < rows s) where
       rw (lt-leb (kind s r) 6 (rw e g), inner) (rw z at (by-kind k (flagged-reads s r n) b e .0 .1))
 
   falls : (k : ℕ) → hasInner k ≡ true → kind s r ≡ k → inner s r < r
-  falls k h e = go (shape s r k (rw e at (row-steps .0)))
+  falls k h e = go (shape s k (rw e at (row-steps .0)))
     where
-      go : Shape s r k → inner s r < r
-      go (named n b) = never (sym n ∙ h)
-      go (near g b) = inner-near k b g e
-      go (far n g b) = inner-far k n b g e
+      go : Shape s k → inner s r < r
+      go (named n b) = never (sym (ap hasInner n) ∙ h)
+      go (near _ g b) = inner-near k (b r) g e
+      go (far n _ g b) = inner-far k n (b r) g e
       go (bare n b) = never (sym n ∙ h)
-      go (fn n b) = never (sym n ∙ h)
+      go (fn n b) = never (sym (ap hasInner n) ∙ h)
 
   fn-is : kind s r ≡ Fn → SignatureAt s r from × (ending ≡ past s (from + 4))
   unfolding bodyOf rowKinds
@@ -159,19 +161,34 @@ module _ (s : List ℕ) (acc : Accepted s) (r : ℕ) (l : r < rows s) where
         arg-falls = λ e. rw z at (fn-is e .0 .args .each);
       }
 
-  -- ## How long it is
+  -- ## How long it is, by its shape
 
-  pub row-size : offset s r + 2 ≤ bodies-of s acc .start (suc r)
-  unfolding from ending past
-  row-size = go (shape s r (kind s r) (row-steps .0))
-    where
-      go : Shape s r (kind s r) → from ≤ ending
-      go (named n b) = omega (arith, by-kind (kind s r) (limited-reads s 6 256) b refl .1)
-      go (near g b) = omega (arith, by-kind (kind s r) (limited-reads s 7 r) b refl .1)
-      go (far n g b) = omega (arith, by-kind (kind s r) (flagged-reads s r n) b refl .1)
-      go (bare n b) = omega (arith, by-kind (kind s r) nothing-read b refl)
-      go (fn n b) = omega (arith, by-kind (kind s r) (signature-reads s r) b refl .1)
+  pub named-long : (k : ℕ) → bodyOf s r k ≡ limited s 6 256 → kind s r ≡ k → bodies-of s acc .start (suc r) ≡ offset s r + 4
+  unfolding from ending
+  named-long k b e = omega (arith, by-kind k (limited-reads s 6 256) b e .1)
+
+  pub near-long : (k : ℕ) → bodyOf s r k ≡ limited s 7 r → kind s r ≡ k → bodies-of s acc .start (suc r) ≡ offset s r + 4
+  unfolding from ending
+  near-long k b e = omega (arith, by-kind k (limited-reads s 7 r) b e .1)
+
+  pub far-long : (k n : ℕ) → bodyOf s r k ≡ flagged s n r → kind s r ≡ k → bodies-of s acc .start (suc r) ≡ offset s r + 6
+  unfolding from ending
+  far-long k n b e = omega (arith, by-kind k (flagged-reads s r n) b e .1)
+
+  pub bare-long : (k : ℕ) → bodyOf s r k ≡ end → kind s r ≡ k → bodies-of s acc .start (suc r) ≡ offset s r + 2
+  unfolding from ending
+  bare-long k b e = omega (arith, by-kind k nothing-read b e)
 
   pub fn-size : kind s r ≡ Fn → bodies-of s acc .start (suc r) ≡ offset s r + 8 + 2 * fnArgCount s r
   unfolding from ending past fnArgCount
   fn-size e = let z : offset s r + 2 + 4 ≡ offset s r + 6 = omega arith in let h = rw z at (fn-is e .1) in omega arith
+
+  pub row-size : offset s r + 2 ≤ bodies-of s acc .start (suc r)
+  row-size = go (shape s (kind s r) (row-steps .0))
+    where
+      go : Shape s (kind s r) → offset s r + 2 ≤ bodies-of s acc .start (suc r)
+      go (named n b) = omega (arith, named-long (kind s r) (b r) refl)
+      go (near _ g b) = omega (arith, near-long (kind s r) (b r) refl)
+      go (far n _ g b) = omega (arith, far-long (kind s r) n (b r) refl)
+      go (bare n b) = omega (arith, bare-long (kind s r) (b r) refl)
+      go (fn n b) = omega (arith, fn-size n)

@@ -28,6 +28,7 @@ module _ (s : List ℕ) where
     pub last : start (rows s + items s) ≡ length s
     pub row-at : (r : ℕ) → r < rows s → offset s r ≡ start r
     pub row-read : (r : ℕ) → r < rows s → row s r (start r) ≡ Next (start (suc r))
+    pub row-fresh : (r : ℕ) → r < rows s → fresh s r r (start (suc r)) ≡ true
     pub item-at : (i : ℕ) → i < items s → offset s (rows s + i) ≡ start (rows s + i)
     pub item-read : (i : ℕ) → i < items s → item s (rows s) (start (rows s + i)) ≡ Next (start (suc (rows s + i)))
 
@@ -86,14 +87,14 @@ module _ (s : List ℕ) where
 
   -- ## The bodies
 
-  row-is : (r at : ℕ) {q : ℕ} → rowAt s r at ≡ Next q → (offset s r ≡ at) × (row s r at ≡ Next q)
+  row-is : (r at : ℕ) {q : ℕ} → rowAt s r at ≡ Next q → (offset s r ≡ at) × (row s r at ≡ Next q) × (fresh s r r q ≡ true)
   unfolding rowAt
   row-is r at h =
       let rest : ℕ → Step = λ next. check (fresh s r r next) 8 at next in
       let a = after-is (check (eqb (offset s r) at) 5 (4 + 2 * r) at) (λ _. after (row s r at) rest) h in
       let b = after-is (row s r at) rest (a .2) in
       let c = check-is (fresh s r r (b .0)) 8 at (b .2) in
-      (eqb-true (offset s r) at (check-is (eqb (offset s r) at) 5 (4 + 2 * r) (a .1) .0), b .1 ∙ ap Next (c .1))
+      (eqb-true (offset s r) at (check-is (eqb (offset s r) at) 5 (4 + 2 * r) (a .1) .0), b .1 ∙ ap Next (c .1), rw (c .1) at (c .0))
 
   item-is : (i at : ℕ) {q : ℕ} → itemAt s (rows s) i at ≡ Next q → (offset s (rows s + i) ≡ at) × (item s (rows s) at ≡ Next q)
   unfolding itemAt
@@ -130,7 +131,8 @@ module _ (s : List ℕ) where
         go true e = let g = ltb-true (rows s + i) (rows s) e in absurd (omega arith)
         go false e = let z : rows s + i - rows s ≡ i = omega arith in ap (p .the-items .start) z
 
-    row-there : (r : ℕ) → r < rows s → (offset s r ≡ start-of r) × (row s r (start-of r) ≡ Next (start-of (suc r)))
+    row-there : (r : ℕ) → r < rows s
+        → (offset s r ≡ start-of r) × (row s r (start-of r) ≡ Next (start-of (suc r))) × (fresh s r r (start-of (suc r)) ≡ true)
     row-there r l =
         let z : 0 + r ≡ r = omega arith in
         let a = row-is r (p .the-rows .start r) (rw z at (p .the-rows .body r l)) in
@@ -152,6 +154,7 @@ module _ (s : List ℕ) where
           last = start-item (items s) ∙ p .the-items .last;
           row-at = λ r l. row-there r l .0;
           row-read = λ r l. row-there r l .1;
+          row-fresh = λ r l. row-there r l .2;
           item-at = λ i l. item-there i l .0;
           item-read = λ i l. item-there i l .1;
         }

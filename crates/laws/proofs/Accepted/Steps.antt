@@ -8,11 +8,12 @@ use mathlib.Core.Bool.{Bool, true, false, _||_, _&&_}
 use native.Mathlib.Omega.{arith}
 use lib.ListN.{length, getD}
 use lib.Dec.{ltb, leb, eqb}
-use borrow.Author.Tests.{ltb-true, eqb-true}
+use borrow.Author.Tests.{ltb-true, leb-true, eqb-true}
 use Rattle.rules.specs.declared.Step.{Step}
 use Rattle.rules.specs.declared.Step.the-variants.{Next, Refused}
 use Rattle.rules.specs.Format.{check, after, _>>_, end, each, pairAt, offset, one, limited, orNone, times, list, typeHead, repr, variants, receivers, receiver}
 use Rattle.rules.specs.View.{kind, past, entry}
+pub use Rattle.laws.specs.Kinds.{RowOrNone}
 use Rattle.laws.proofs.Tests.{or-is, both-are}
 
 -- a refusal is no place
@@ -43,10 +44,6 @@ infixl 20 _then_
 pub nothing-read : Reads end (λ at q. q ≡ at)
 nothing-read = record { of = λ at h. sym (next-is h) }
 
--- a return row, or none
-abbrev pub RowOrNone : (limit v : ℕ) → Type 0
-RowOrNone limit v = (v ≡ 65535) ⊎ (v < limit)
-
 module _ (s : List ℕ) where
   -- a list: its count is allowed, and so is each entry
   pub record ListAt (most limit at : ℕ) : Type 0 where
@@ -63,6 +60,14 @@ module _ (s : List ℕ) where
             let b = after-is (check (ok (pairAt s at)) w at at) (λ _. Next (at + 2)) (a .2) in
             (check-is (ok (pairAt s at)) w at (b .1) .0, sym (next-is (b .2)));
       }
+
+  -- a pair is read within the sheet
+  pub limited-within : (w n at : ℕ) {q : ℕ} → limited s w n at ≡ Next q → at + 2 ≤ length s
+  unfolding limited one
+  limited-within w n at h =
+      let rest : ℕ → Step = λ _. after (check (ltb (pairAt s at) n) w at at) (λ _. Next (at + 2)) in
+      let a = after-is (check (leb (at + 2) (length s)) 5 (length s) at) rest h in
+      leb-true (at + 2) (length s) (check-is (leb (at + 2) (length s)) 5 (length s) (a .1) .0)
 
   pub limited-reads : (w n : ℕ) → Reads (limited s w n) (λ at q. (pairAt s at < n) × (q ≡ at + 2))
   unfolding limited

@@ -1,24 +1,23 @@
 -- The reasons of a name are as many as stand for it in the list of reasons; on an accepted sheet at most 17,344.
 -- Assumes nothing.
-use Prim.Native.Nat.{ℕ, _+_, _*_, _≤_, _<_}
-use mathlib.Core.Path.{_≡_, refl, _∙_}
+use Prim.Native.Nat.{ℕ, _*_, _≤_, _<_}
+use mathlib.Core.Path.{_≡_, refl}
 use mathlib.Core.Bool.{Bool, true, false}
 use mathlib.Core.List.{List, [], _∷_, _++_}
 use native.Mathlib.Omega.{arith}
 use native.Mathlib.Decide.{decLt}
 use lib.Dec.{eqb}
-use lib.ListN.{length, getD, set, replicate, length-append, length-set, length-replicate, List·getD-eq-default}
-use lib.Seq.{getD-set-same, getD-set-other}
+use lib.ListN.{length, getD, length-append, List·getD-eq-default}
 use borrow.Author.Tests.{eqb-true}
 use Rattle.rules.specs.Base.{if_then_else_, over}
 use Rattle.rules.specs.Count.{count}
 use Rattle.rules.specs.Format.{Accepted}
 use Rattle.rules.specs.Names.{Words}
 use Rattle.rules.specs.View.{items, Struct, itemKind, itemIs, isFunction, fieldCount, field, argCount, arg, hasReturn, return}
-use Rattle.rules.specs.Trivial.{insist, reasonsOfItem, reasonsOfRow, reasonNames, tally, reasonsOf}
+use Rattle.rules.specs.Trivial.{insist, reasonsOfItem, reasonsOfRow, reasonNames, reasonsOf}
 use Rattle.rules.specs.Types.{Types, typesOf}
 use Rattle.laws.proofs.Counts.{Eq?, same, other, eq?}
-use Rattle.laws.proofs.Lists.{zeros-get}
+use Rattle.laws.proofs.Lists.{over-length, over-get}
 use Rattle.laws.proofs.Accepted.Sheet.{sheet-of}
 use Rattle.laws.proofs.Accepted.Items.{ItemOf, item-of}
 use Rattle.laws.proofs.Collect.{all-few}
@@ -26,33 +25,14 @@ use Rattle.laws.proofs.Bounds.Lengths.{none≤1, one≤1, if-few, over-
 
 -- ## The counts
 
-tally-is : (ns t : List ℕ) (n : ℕ) → n < length t → getD (tally t ns) n 0 ≡ getD t n 0 + count n ns
-unfolding tally
-tally-is [] t n l = omega arith
-tally-is (m ∷ ns) t n l = go (eq? n m) (tally-is ns (set t m (getD t m 0 + 1)) n (let e = length-set t m (getD t m 0 + 1) in omega arith))
-  where
-    more : List ℕ
-    more = set t m (getD t m 0 + 1)
-
-    go : Eq? n m → getD (tally more ns) n 0 ≡ getD more n 0 + count n ns → getD (tally more ns) n 0 ≡ getD t n 0 + count n (m ∷ ns)
-    go (same e q) ih =
-        let z : getD more n 0 ≡ getD t n 0 + 1 = rw q (getD-set-same t m (getD t m 0 + 1) 0 (let k : m < length t = rw (← q) l in k)) in
-        rw e (omega arith)
-    go (other e q) ih = rw e (omega (arith, getD-set-other t m n (getD t m 0 + 1) 0 q))
-
-pub tally-length : (ns t : List ℕ) → length (tally t ns) ≡ length t
-unfolding tally
-tally-length [] t = refl
-tally-length (n ∷ ns) t = tally-length ns (set t n (getD t n 0 + 1)) ∙ length-set t n (getD t n 0 + 1)
-
 pub reasons-length : (ns : List ℕ) → length (reasonsOf ns) ≡ 256
 unfolding reasonsOf
-reasons-length ns = tally-length ns (replicate 256 0) ∙ length-replicate {A = ℕ} 256 0
+reasons-length ns = over-length (λ n. count n ns) 256
 
 -- as often as the name stands in the list
 pub reasons-are : (ns : List ℕ) (n : ℕ) → n < 256 → getD (reasonsOf ns) n 0 ≡ count n ns
 unfolding reasonsOf
-reasons-are ns n l = tally-is ns (replicate 256 0) n (omega (arith, length-replicate {A = ℕ} 256 0)) ∙ omega (arith, zeros-get 256 n)
+reasons-are ns n l = over-get (λ n. count n ns) 0 256 n l
 
 count-few : (n : ℕ) (l : List ℕ) → count n l ≤ length l
 count-few n [] = omega arith

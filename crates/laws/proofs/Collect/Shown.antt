@@ -9,14 +9,15 @@ use lib.Dec.{eqb}
 use borrow.Author.Tests.{eqb-true}
 use Rattle.rules.specs.Base.{if_then_else_, some}
 use Rattle.rules.specs.Format.{pairAt, offset, Accepted}
-use Rattle.rules.specs.View.{Ident, Str, Fn, Void, rows, kind, inner, fnReturn, fnArgs, fnArgCount, fnArg, shown, orNothing, entry, entries, Struct, Enum}
+use Rattle.rules.specs.View.{Fn, rows, kind, inner, fnReturn, fnArgs, fnArgCount, fnArg, shown, orNothing, entry, entries, Struct, Enum}
 use Rattle.rules.specs.View.{CxxFunction, RustFunction, Impl, items, itemKind, itemIs, isFunction, rest, fields, fieldCount, field, enumRepr, args, argCount}
 use Rattle.rules.specs.View.{arg, returnPlace, return, implRow}
 use Rattle.rules.specs.Collect.{shownBy}
+pub use Rattle.laws.specs.Kinds.{leaf}
+use Rattle.laws.specs.Kinds.{RowOrNone}
 use Rattle.laws.specs.Reach.{In}
 use Rattle.laws.proofs.Tests.{never, both, all-pass}
 use Rattle.laws.proofs.Members.{in-none, in-one, in-cases, in-over}
-use Rattle.laws.proofs.Accepted.Steps.{RowOrNone}
 use Rattle.laws.proofs.Accepted.Rows.{RowOf, hasInner, row-of}
 use Rattle.laws.proofs.Accepted.Items.{ItemOf, FunctionOf, item-of}
 
@@ -37,10 +38,6 @@ module _ (s : List ℕ) (limit : ℕ) where
       go false e (inr l) i = rw (in-one x v i) l
 
 -- ## Rows
-
--- Ident, Str and Void show nothing
-abbrev pub leaf : (kind : ℕ) → Bool
-leaf k = eqb k Ident || eqb k Str || eqb k Void
 
 module _ (s : List ℕ) (r : ℕ) where
   abbrev shownAs : (isLeaf isFn : Bool) → List ℕ

@@ -14,7 +14,8 @@ use Rattle.rules.specs.Types.{typesOf}
 use Rattle.rules.specs.Graph.{Graph}
 use Rattle.rules.specs.Order.{graphOf}
 use Rattle.rules.specs.Walk.{fieldsOut}
-use Rattle.laws.proofs.Counts.{fresh, fresh-set}
+use Rattle.laws.specs.Left.{fresh}
+use Rattle.laws.proofs.Counts.{fresh-set}
 use Rattle.toposort.specs.State.{Visits}
 use Rattle.toposort.proofs.Edges.{few-fields, bounded, struct-below, leads-struct, counted-is}
 use Rattle.toposort.proofs.Parts.{did-still, room-less}

@@ -8,16 +8,16 @@ use borrow.Author.Needs.{needs}
 use Rattle.rules.specs.View.{fieldCount}
 use Rattle.rules.specs.Types.{typesOf}
 use Rattle.rules.specs.Order.{graphOf}
-use Rattle.rules.specs.Tiers.{tops}
-use Rattle.laws.proofs.LongestChain.{up}
+use Rattle.rules.specs.Tiers.{largest}
+use Rattle.laws.specs.TierPass.{up}
 use Rattle.toposort.proofs.Edges.{counted-is}
-use Rattle.toposort.proofs.TierTurns.{tops-none, tops-more}
+use Rattle.toposort.proofs.TierTurns.{largest-none, largest-more}
 use Rattle.toposort.proofs.tier_from.Statement.{statement}
 use Rattle.toposort.proofs.tier_from.Tie as tie
 
 abbrev Inv-loop : tie.InvT-loop
 Inv-loop s last tiers i at fields best₀ j₀ best j =
-    (fields ≡ fieldCount s i) × (j ≤ fields) × (best ≡ tops up (λ x. getD tiers x 0) (graphOf s (typesOf s)) i j)
+    (fields ≡ fieldCount s i) × (j ≤ fields) × (best ≡ largest (λ x. up (getD tiers x 0)) (graphOf s (typesOf s)) i j)
 
 abbrev μ-loop : tie.MeasureT-loop
 μ-loop s last tiers i at fields best₀ j₀ best j = fields - j
@@ -32,7 +32,7 @@ pair-at-requires : tie.Need-pair-at-requires Inv-loop μ-loop
 pair-at-requires c κs = search needs
 
 loop-holds : tie.Need-loop-holds Inv-loop μ-loop
-unfolding tops
+unfolding largest
 loop-holds c =
     let a = c .before .before .before .args in
     (counted-is (a .s .now) (a .i) _ _ (c .before .rest .ensures) (c .pair-at .ensures), omega arith, refl)
@@ -69,7 +69,7 @@ loop-again c =
     let h = c6 .loop .inv in
     let e = c4 .leads-to .ensures (a .i) (c8 .rest .ensures) in
     let g = graphOf (a .s .now) (typesOf (a .s .now)) in
-    let more = tops-more _ g (a .i) (c6 .loop .j) _ (h .2) _ _ _ e (c3 .if1 .taken) (c .before .above .ensures) (c .larger .ensures) in
+    let more = largest-more _ g (a .i) (c6 .loop .j) _ (h .2) _ _ _ e (c3 .if1 .taken) (c .before .above .ensures) (c .larger .ensures) in
     (h .0, omega arith, more)
 
 loop-less-2 : tie.Need-loop-less-2 Inv-loop μ-loop
@@ -81,14 +81,14 @@ loop-again-2 c =
     let h = c .before .before .before .loop .inv in
     let e = c .before .leads-to .ensures (a .i) (c .before .before .before .before .before .rest .ensures) in
     let g = graphOf (a .s .now) (typesOf (a .s .now)) in
-    (h .0, omega arith, tops-none _ g (a .i) (c .before .before .before .loop .j) _ (h .2) (sym e ∙ c .if1 .left))
+    (h .0, omega arith, largest-none _ g (a .i) (c .before .before .before .loop .j) _ (h .2) (sym e ∙ c .if1 .left))
 
 returns : tie.Need-returns Inv-loop μ-loop
 returns c =
     let a = c .before .before .before .before .before .args in
     let h = c .before .loop .inv in
     let z : c .before .loop .j ≡ fieldCount (a .s .now) (a .i) = omega (arith, h .0, h .1, c .loop-test .left) in
-    h .2 ∙ ap (tops up (λ x. getD (a .tiers .now) x 0) (graphOf (a .s .now) (typesOf (a .s .now))) (a .i)) z
+    h .2 ∙ ap (largest (λ x. up (getD (a .tiers .now) x 0)) (graphOf (a .s .now) (typesOf (a .s .now))) (a .i)) z
 
 pub tier-from-spec : {M : Type 1} → statement M
 tier-from-spec =

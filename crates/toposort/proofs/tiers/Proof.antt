@@ -7,7 +7,7 @@ use native.Mathlib.Omega.{arith}
 use borrow.Author.Needs.{needs}
 use Rattle.rules.specs.Types.{typesOf}
 use Rattle.rules.specs.Order.{graphOf}
-use Rattle.laws.proofs.TierPass.{startTo, tiersTo}
+use Rattle.laws.specs.TierPass.{startTo, tiersTo}
 use Rattle.toposort.proofs.TierTurns.{tiers-on, order-fits, place-below, tiers-end}
 use Rattle.toposort.proofs.tiers.Statement.{statement}
 use Rattle.toposort.proofs.tiers.Tie as tie

@@ -7,7 +7,7 @@ use native.Mathlib.Omega.{arith}
 use borrow.Author.Needs.{needs}
 use Rattle.rules.specs.Types.{typesOf}
 use Rattle.rules.specs.Order.{graphOf}
-use Rattle.laws.proofs.TierPass.{startTo}
+use Rattle.laws.specs.TierPass.{startTo}
 use Rattle.toposort.proofs.TierTurns.{start-struct, start-other}
 use Rattle.toposort.proofs.unknown_tiers.Statement.{statement}
 use Rattle.toposort.proofs.unknown_tiers.Tie as tie

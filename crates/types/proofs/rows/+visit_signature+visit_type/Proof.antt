@@ -11,7 +11,8 @@ use native.Mathlib.Omega.{arith}
 use lib.ListN.{length}
 use Rattle.rules.specs.View.{kind, orNothing, fnReturn}
 use Rattle.laws.proofs.Accepted.Rows.{row-of}
-use Rattle.laws.proofs.Collect.Shown.{leaf, shown-leaf, shown-fn}
+use Rattle.laws.specs.Kinds.{leaf}
+use Rattle.laws.proofs.Collect.Shown.{shown-leaf, shown-fn}
 use Rattle.types.specs.Scratch.{Walks}
 use Rattle.types.proofs.Walking.{few, held-next, still, wider, further, old, new, none, one}
 use Rattle.types.proofs.Walking.{firstRows, to-none, to-more, to-end, not-none, inner-less, shown-one, args-less, args-are}
