@@ -1,5 +1,5 @@
--- Decimal numbers of any width, by two equations: a number below 10 is its digit (`decimal-small`), any other is what stands before its last digit, and that digit
--- (`decimal-more`). A number below 10 ^ w has at most w digits (`short`). Two numbers never look alike (`decimal-apart`).
+-- Decimal numbers of any width, by two equations: a number below 10 is its digit (`decimal-small`), any other is what stands before its last digit, and that
+-- digit (`decimal-more`). A number below 10 ^ w has at most w digits (`short`). Two numbers never look alike (`decimal-apart`).
 -- Assumes nothing.
 use Prim.Native.Nat.{ℕ, zero, suc, _+_, _*_, _/_, _%_, _^_, _-_, _≤_, _<_}
 use mathlib.Core.Path.{_≡_, refl, sym, ap, _∙_}

@@ -1,4 +1,5 @@
--- The whole text: of a refusal; of an answer, with counts that are cut where its lists end; that only the first records show in it; and what `write` leaves, in its two cases.
+-- The whole text: of a refusal; of an answer, with counts that are cut where its lists end. Only the first records show in it. And what `write` leaves, in its
+-- two cases.
 -- Assumes nothing.
 use Prim.Native.Nat.{ℕ, _+_, _≤_, _<_, min}
 use mathlib.Core.Path.{_≡_, refl, sym, ap, _∙_}

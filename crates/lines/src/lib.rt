@@ -6,10 +6,10 @@ ghost use lib.ListN.{length, getD, take};
 ghost use Rattle.rules.specs.Names.{empty};
 ghost use Rattle.rules.specs.Answer.{nameSet};
 ghost use Rattle.rules.specs.Text.{line, tiersAlong, membersTo, refusedText, acceptedText, textOf};
-ghost use Rattle.lines.specs.Put.{Put, Wrote};
+ghost use Rattle.lines.specs.Put.{Put, most, Wrote};
+use lists::put_along;
 use lists::put_list;
 use lists::put_members;
-use lists::put_tiers;
 use lists::put_word;
 use numbers::put_byte;
 use numbers::put_wide;
@@ -27,8 +27,6 @@ mod records; // diagnostics
 // No text is longer.
 pub const MOST: usize = 14379;
 
-const LINE_END: u8 = b'\n';
-
 fn put_total(out: &mut [u8], at: usize, total: usize) -> usize
     requires { ⌜ at + 30 ≤ length (now out) ⌝ }
     ensures { λ r. ⌜ Put (now (out .entry)) at (line "accepted" (total ∷ [])) r (now (out .exit)) ⌝ }
@@ -36,7 +34,7 @@ fn put_total(out: &mut [u8], at: usize, total: usize) -> usize
 {
     let a = put_word(out, at, b"accepted");
     let b = put_wide(out, a, total);
-    put1(out, b, LINE_END)
+    put1(out, b, b'\n')
 }
 
 fn put_order(out: &mut [u8], at: usize, order: &[u8], n: usize) -> usize
@@ -46,17 +44,17 @@ fn put_order(out: &mut [u8], at: usize, order: &[u8], n: usize) -> usize
 {
     let a = put_word(out, at, b"order");
     let b = put_list(out, a, order, n);
-    put1(out, b, LINE_END)
+    put1(out, b, b'\n')
 }
 
-fn put_tiers_line(out: &mut [u8], at: usize, order: &[u8], tiers: &[u8], n: usize) -> usize
+fn put_tiers(out: &mut [u8], at: usize, order: &[u8], tiers: &[u8], n: usize) -> usize
     requires { ⌜ (n ≤ length (now order)) × (at + (6 + 4 * n) ≤ length (now out)) ⌝ }
     ensures { λ r. ⌜ Put (now (out .entry)) at (line "tiers" (tiersAlong (now (tiers .entry)) (take n (now (order .entry))))) r (now (out .exit)) ⌝ }
     ensures { λ r. ⌜ r ≤ at + (6 + 4 * n) ⌝ }
 {
     let a = put_word(out, at, b"tiers");
-    let b = put_tiers(out, a, order, tiers, n);
-    put1(out, b, LINE_END)
+    let b = put_along(out, a, order, tiers, n);
+    put1(out, b, b'\n')
 }
 
 fn put_improper(out: &mut [u8], at: usize, set: NameSet) -> usize
@@ -66,7 +64,7 @@ fn put_improper(out: &mut [u8], at: usize, set: NameSet) -> usize
 {
     let a = put_word(out, at, b"improper");
     let b = put_members(out, a, set);
-    put1(out, b, LINE_END)
+    put1(out, b, b'\n')
 }
 
 fn put_refusal(out: &mut [u8], number: u8, position: usize) -> usize
@@ -78,7 +76,7 @@ fn put_refusal(out: &mut [u8], number: u8, position: usize) -> usize
     let b = put_byte(out, a, number);
     let c = put_word(out, b, b" at");
     let d = put_wide(out, c, position);
-    put1(out, d, LINE_END)
+    put1(out, d, b'\n')
 }
 
 // The last of an answer's sets.
@@ -95,9 +93,9 @@ fn put_accepted(
     records: usize,
     list: [Diagnostic; 4096],
 ) -> usize
-    requires { ⌜ (structs ≤ 255) × (records ≤ 512) × (14379 ≤ length (now out)) ⌝ }
+    requires { ⌜ (structs ≤ 255) × (records ≤ 512) × (most ≤ length (now out)) ⌝ }
     ensures { λ r. ⌜ Put (now (out .entry)) 0 (acceptedText answer structs (take records list)) r (now (out .exit)) ⌝ }
-    ensures { λ r. ⌜ r ≤ 14379 ⌝ }
+    ensures { λ r. ⌜ r ≤ most ⌝ }
 {
     let order = answer.order;
     let tiers = answer.tiers;
@@ -105,7 +103,7 @@ fn put_accepted(
     let improper = improper_of(sets);
     let a = put_total(out, 0, answer.total);
     let b = put_order(out, a, &order, structs);
-    let c = put_tiers_line(out, b, &order, &tiers, structs);
+    let c = put_tiers(out, b, &order, &tiers, structs);
     let d = put_improper(out, c, improper);
     put_records(out, d, list, records)
 }

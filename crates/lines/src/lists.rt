@@ -51,7 +51,7 @@ fn entry(list: &[u8], k: u8) -> u8
 }
 
 // The tiers of the first n items of the order.
-pub fn put_tiers(out: &mut [u8], at: usize, order: &[u8], tiers: &[u8], n: usize) -> usize
+pub fn put_along(out: &mut [u8], at: usize, order: &[u8], tiers: &[u8], n: usize) -> usize
     requires { ⌜ (n ≤ length (now order)) × (at + 4 * n ≤ length (now out)) ⌝ }
     ensures { λ r. ⌜ Put (now (out .entry)) at (flatMap spaced (tiersAlong (now (tiers .entry)) (take n (now (order .entry))))) r (now (out .exit)) ⌝ }
     ensures { λ r. ⌜ r ≤ at + 4 * n ⌝ }

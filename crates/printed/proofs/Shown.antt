@@ -50,6 +50,9 @@ module _ {A : Type 0} where
 
 -- ## The text
 
+pub answer-alone : (s scratch : List ℕ) (l m : List Diagnostic) → call s scratch l .answer ≡ call s scratch m .answer
+answer-alone s scratch l m = sym (call-answer s scratch l) ∙ call-answer s scratch m
+
 -- a refusal shows no records, and an accepted sheet's are the report
 records-shown : (v : Step) (s : List ℕ) (n : ℕ) → textOf (answerBy v s) n (recordsBy v s) ≡ textOf (answerBy v s) n (report s)
 unfolding answerBy recordsBy refused textOf

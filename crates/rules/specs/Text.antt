@@ -86,6 +86,6 @@ unfoldable pub textOf : Answer → (structs : ℕ) → List Diagnostic → List 
 textOf a structs records =
     elim (a .verdict) [ Accepted ↦ acceptedText a structs records | Refused number position ↦ refusedText number position ]
 
--- of a list of bytes: what the call answers, with a scratch that is long enough (the answer does not depend on the list), and the full report
+-- of a list of bytes: what the call answers on a scratch that is long enough, and the full report. Which list the call gets does not show in its answer
 unfoldable pub sheetText : List ℕ → List ℕ
 sheetText s = textOf (call s (replicate 4096 0) [] .answer) (structsTo s (items s)) (report s)

@@ -1,4 +1,5 @@
--- What is printed for document 01's worked sheet, for two more of its proved set and for a refusal, byte for byte; and of more than 512 records the first 512. By computing.
+-- What is printed for document 01's worked sheet, for two more of its proved set and for a refusal, byte for byte; and of more than 512 records the first 512.
+-- By computing.
 -- Assumes nothing.
 use Prim.Native.Nat.{ℕ, _+_}
 use mathlib.Core.Path.{_≡_, refl}
@@ -8,7 +9,8 @@ use Rattle.rules.specs.declared.Place.the-variants.{F, G}
 use Rattle.rules.specs.Rule3.{structsTo}
 use Rattle.rules.specs.Table.{Expected, answerOf}
 use Rattle.rules.specs.Computed.{bytes, computed}
-use Rattle.rules.specs.Text.{ascii, digitsBy, decimal, spaced, line, tiersAlong, membersTo, placeText, recordLine, refusedText, acceptedText, textOf, sheetText}
+use Rattle.rules.specs.Text.{ascii, digitsBy, decimal, spaced, line, tiersAlong, membersTo, placeText, recordLine}
+use Rattle.rules.specs.Text.{refusedText, acceptedText, textOf, sheetText}
 
 -- `sheetText`, with every definition open; of pairs
 unfoldable pub textOfPairs : List ℕ → List ℕ

@@ -26,14 +26,14 @@ put-order-requires c κs =
     let h : length (begin .args .answer .order) ≡ 255 = search needs in
     (omega (arith, begin .pre .0), search needs)
 
-slice-aggregate-put-tiers-line : tie.Need-slice-aggregate-put-tiers-line
-slice-aggregate-put-tiers-line c = search needs
+slice-aggregate-put-tiers : tie.Need-slice-aggregate-put-tiers
+slice-aggregate-put-tiers c = search needs
 
-slice-aggregate-put-tiers-line-2 : tie.Need-slice-aggregate-put-tiers-line-2
-slice-aggregate-put-tiers-line-2 c = search needs
+slice-aggregate-put-tiers-2 : tie.Need-slice-aggregate-put-tiers-2
+slice-aggregate-put-tiers-2 c = search needs
 
-put-tiers-line-requires : tie.Need-put-tiers-line-requires
-put-tiers-line-requires c κs =
+put-tiers-requires : tie.Need-put-tiers-requires
+put-tiers-requires c κs =
     let begin = c .before .before .before .before .before .before .before .before .before .before .before .before .before .before .before .before .before in
     let h : length (begin .args .answer .order) ≡ 255 = search needs in
     (omega (arith, begin .pre .0), search needs)
@@ -59,7 +59,7 @@ returns c =
     let begin = set .before .before .before .before .before in
     let named = ap (λ (s : NameSet). line "improper" (membersTo 256 (s .words))) (set .improper-of .ensures) in
     let few = cut (begin .args .records) (begin .args .list) (begin .pre .1) in
-    let first = also (also (total .put-total .ensures .0) (order .put-order .ensures .0)) (tiers .put-tiers-line .ensures .0) in (
+    let first = also (also (total .put-total .ensures .0) (order .put-order .ensures .0)) (tiers .put-tiers .ensures .0) in (
       also (also first (meant (improper .put-improper .ensures .0) named)) (meant (records .put-records .ensures .0) few),
       omega (
         arith,
@@ -67,7 +67,7 @@ returns c =
         begin .pre .1,
         total .put-total .ensures .1,
         order .put-order .ensures .1,
-        tiers .put-tiers-line .ensures .1,
+        tiers .put-tiers .ensures .1,
         improper .put-improper .ensures .1,
         records .put-records .ensures .1,
       ),
@@ -81,9 +81,9 @@ put-accepted-spec =
     put-total-requires
     slice-aggregate-put-order
     put-order-requires
-    slice-aggregate-put-tiers-line
-    slice-aggregate-put-tiers-line-2
-    put-tiers-line-requires
+    slice-aggregate-put-tiers
+    slice-aggregate-put-tiers-2
+    put-tiers-requires
     put-improper-requires
     put-records-requires
     same-length

@@ -1,4 +1,4 @@
--- `lines::lists::put_tiers` stores the tiers in the sequence of the order. The loop's invariant: those of the first k are stored.
+-- `lines::lists::put_along` stores the tiers in the sequence of the order. The loop's invariant: those of the first k are stored.
 -- Assumes nothing.
 use borrow.Author.Needs.{needs}
 use Prim.Native.Nat.{ℕ, _+_, _*_, _-_, _≤_}
@@ -9,8 +9,8 @@ use Rattle.lines.specs.Put.{Put}
 use Rattle.rules.specs.Text.{spaced}
 use Rattle.lines.proofs.Laws.{meant, start, turn, upto}
 use Rattle.lines.proofs.Parts.{end, along}
-use Rattle.lines.proofs.lists.put_tiers.Statement.{statement}
-use Rattle.lines.proofs.lists.put_tiers.Tie as tie
+use Rattle.lines.proofs.lists.put_along.Statement.{statement}
+use Rattle.lines.proofs.lists.put_along.Tie as tie
 
 abbrev Inv-loop : tie.InvT-loop
 Inv-loop out₀ at order tiers n k₀ next₀ out k next =
@@ -63,8 +63,8 @@ returns c =
     let put = upto (λ (i : ℕ). spaced (getD (args .tiers .now) i 0)) (args .order .now) (loop .loop .k) (args .n) (loop .loop .inv .3) all in
     (meant put (along (args .tiers .now) _), search needs)
 
-pub put-tiers-spec : {M : Type 1} → statement M
-put-tiers-spec =
+pub put-along-spec : {M : Type 1} → statement M
+put-along-spec =
     tie.close
     (tie.spec
     Inv-loop
