@@ -4,7 +4,6 @@ use mathlib.Core.Path.{_≡_}
 use Prim.Native.Nat.{ℕ}
 use mathlib.Core.List.{List}
 use lib.ListN.{replicate}
-use Rattle.rules.specs.declared.Place.the-variants.{I}
 use Rattle.rules.specs.declared.Diagnostic.{Diagnostic}
 use Rattle.rules.specs.declared.Answer.{Answer}
 use Rattle.bridge.specs.Call.{Called}
@@ -13,9 +12,6 @@ use Rattle.paged.specs.declared.Page.{Page}
 -- how many records a page has room for
 abbrev pub capacity : ℕ
 capacity = 4096
-
-abbrev pub blank : Diagnostic
-blank = record { message = 0; place = I 0; detail = 0 }
 
 pub record Packed (a : Answer) (l : List Diagnostic) (r : Page) : Type 0 where
   pub answer : r .answer ≡ a

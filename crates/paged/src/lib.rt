@@ -1,9 +1,9 @@
 // The one call with a list of its own, by value: for programs and tests, which then need no walk.
 ghost use mathlib.Core.Path.{_≡_};
-ghost use Rattle.paged.specs.Paged.{blank, Packed, Paged};
+ghost use Rattle.errors.specs.Records.{blank};
+ghost use Rattle.paged.specs.Paged.{Packed, Paged};
 use rules::Answer;
 use rules::Diagnostic;
-use rules::Place;
 
 // An answer, and its first records.
 pub struct Page {
@@ -30,10 +30,6 @@ fn call_on(sheet: &[u8], scratch: &mut [u8], d: Diagnostic) -> Page
 pub fn call(sheet: &[u8], scratch: &mut [u8]) -> Page
     ensures { λ r. ⌜ Paged (now (sheet .entry)) (now (scratch .entry)) blank r (now (scratch .exit)) ⌝ }
 {
-    let d = Diagnostic {
-        message: 0,
-        place: Place::I(0),
-        detail: 0,
-    };
+    let d = errors::codes::blank();
     call_on(sheet, scratch, d)
 }

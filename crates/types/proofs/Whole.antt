@@ -7,7 +7,7 @@ use native.Mathlib.Omega.{arith}
 use native.Mathlib.Nat.{zero-div}
 use lib.ListN.{length, getD, drop, replicate, length-drop}
 use lib.Seq.{getD-drop, ext-getD}
-use Rattle.rules.specs.Base.{over, anyOf}
+use Rattle.rules.specs.Base.{if_then_else_, over, anyOf}
 use Rattle.rules.specs.Format.{pairAt, Accepted}
 use Rattle.rules.specs.Names.{Words, bitOf}
 use Rattle.rules.specs.View.{items}

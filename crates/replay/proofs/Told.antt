@@ -1,0 +1,100 @@
+-- What `replay` asks of the port is what the call answers: an answer and records behind it (`laid`), of the page that the call fills (`told`); no room
+-- (`nothing`); and the collected rows, by what the reader says (`no-rows`, `some-rows`).
+-- Assumes nothing.
+use Prim.Native.Nat.{ℕ, _+_, _-_, _*_, _/_, _≤_, _<_, min}
+use mathlib.Core.Path.{_≡_, refl, sym, ap, _∙_, subst}
+use mathlib.Core.List.{List, [], _++_, flatMap}
+use native.Mathlib.Omega.{arith}
+use lib.ListN.{length, getD, take, drop, replicate, length-take, length-replicate}
+use lib.Seq.{sets, take-append-seam}
+use borrow.Author.Tests.{le-leb}
+use Rattle.rules.specs.declared.Step.{Step}
+use Rattle.rules.specs.declared.Step.the-variants.{Next, Refused}
+use Rattle.rules.specs.declared.Answer.{Answer}
+use Rattle.rules.specs.declared.Diagnostic.{Diagnostic}
+use Rattle.rules.specs.Base.{if_then_else_}
+use Rattle.rules.specs.Format.{pairAt}
+use Rattle.rules.specs.Answer.{readWith, call}
+use Rattle.laws.proofs.Lists.{sets-first}
+use Rattle.errors.specs.Records.{recordBytes}
+use Rattle.errors.proofs.Stores.{sets-append}
+use Rattle.bridge_core.specs.Run.{answerOf, recordsOf}
+use Rattle.bridge_core.proofs.RunLaws.{total-is, call-answer, call-list}
+use Rattle.layout.specs.Layout.{answerBytes, layoutOf, fitting, headed, Written}
+use Rattle.lines.specs.Put.{Put}
+use Rattle.replay.specs.Port.{Laid, Told, Collected, rowsBy, RowsOf}
+
+-- ## Records behind an answer
+
+pub laid : {a : Answer} {ds : List Diagnostic} {n r q : ℕ} {out out₁ out₂ : List ℕ} → 34080 ≤ length out → n ≤ 4096 → Written a n out r out₁
+    → Put out₁ 1312 (flatMap recordBytes ds) q out₂ → Laid a ds n out out₂
+unfolding headed fitting if_then_else_
+laid {a} {ds} {n} {out = out} {out₁} h k w p =
+    let few : fitting n (length out) ≡ n = omega arith in
+    let long : length (answerBytes a n) ≡ 1312 = subst (λ (m : ℕ). length (answerBytes a m) ≡ 1312) few (w .long (omega arith)) in
+    let front : out₁ ≡ sets out 0 (answerBytes a n) = rw (le-leb 1312 (length out) (omega arith), if_then_else_, few) at (w .bytes) in
+    record {
+      bytes =
+          p .stored .stored
+          ∙ ap (λ (l : List ℕ). sets l 1312 (flatMap recordBytes ds)) front
+          ∙ ap (λ (m : ℕ). sets (sets out 0 (answerBytes a n)) m (flatMap recordBytes ds)) (sym long)
+          ∙ sets-append out 0 (answerBytes a n) (flatMap recordBytes ds);
+    }
+
+-- ## The page
+
+-- what a list keeps of the report: as many as it has places
+first-kept : {A : Type 0} (b xs : List A) → take (min (length xs) (length b)) (sets b 0 xs) ≡ take (length b) xs
+first-kept b xs =
+    let front = take (length b) xs in
+    let many : min (length xs) (length b) ≡ length front = omega (arith, length-take (length b) xs) in
+    ap (λ l. take (min (length xs) (length b)) l) (sets-first b xs)
+    ∙ ap (λ (m : ℕ). take m (front ++ drop (length xs) b)) many
+    ∙ take-append-seam front (drop (length xs) b)
+
+-- for a scratch of m bytes and a list of m places
+page : (m : ℕ) (s sc out out′ : List ℕ) (a : Answer) (zs list : List Diagnostic) (n : ℕ) → length sc ≡ m → length zs ≡ m → a ≡ call s sc zs .answer
+    → list ≡ call s sc zs .list → n ≡ min (a .total) m → Laid a (take n list) n out out′
+    → out′ ≡ sets out 0 (layoutOf (call s sc [] .answer) (take m (recordsOf s m)))
+unfolding layoutOf
+page m s sc out out′ a zs list n is-sc is-zs is-a is-list is-n l =
+    let ds : List Diagnostic = recordsOf s m in
+    let answer : a ≡ answerOf s m = is-a ∙ sym (call-answer s sc zs) ∙ ap (answerOf s) is-sc in
+    let total : a .total ≡ length ds = ap (λ (x : Answer). x .total) answer ∙ total-is s m in
+    let stored : list ≡ sets zs 0 ds = is-list ∙ sym (call-list s sc zs) ∙ ap (λ (k : ℕ). sets zs 0 (recordsOf s k)) is-sc in
+    let many : n ≡ min (length ds) (length zs) = is-n ∙ ap (λ (t : ℕ). min t m) total ∙ ap (min (length ds)) (sym is-zs) in
+    let records : take n list ≡ take m ds =
+    ap (λ (x : List Diagnostic). take n x) stored
+    ∙ ap (λ (k : ℕ). take k (sets zs 0 ds)) many
+    ∙ first-kept zs ds
+    ∙ ap (λ (k : ℕ). take k ds) is-zs in
+    let count : n ≡ length (take m ds) = omega (arith, is-n, total, length-take m ds) in
+    let same : a ≡ call s sc [] .answer = is-a ∙ sym (call-answer s sc zs) ∙ call-answer s sc [] in
+    l .bytes
+    ∙ ap (λ (x : List Diagnostic). sets out 0 (answerBytes a n ++ flatMap recordBytes x)) records
+    ∙ ap (λ (k : ℕ). sets out 0 (answerBytes a k ++ flatMap recordBytes (take m ds))) count
+    ∙ ap (λ (x : Answer). sets out 0 (answerBytes x (length (take m ds)) ++ flatMap recordBytes (take m ds))) same
+
+pub told : {s sc out out′ : List ℕ} {a : Answer} {blank : Diagnostic} {list : List Diagnostic} {n : ℕ} → sc ≡ replicate 4096 0
+    → a ≡ call s sc (replicate 4096 blank) .answer → list ≡ call s sc (replicate 4096 blank) .list → n ≡ min (a .total) 4096
+    → Laid a (take n list) n out out′ → 34080 ≤ length out → Told s out out′
+told {s} {sc} {out} {out′} {a} {blank} {list} {n} is-sc is-a is-list is-n l h =
+    record {
+      bytes = λ _.
+          page 4096 s sc out out′ a (replicate 4096 blank) list n (ap length is-sc ∙ length-replicate 4096 0) (length-replicate 4096 blank) is-a is-list is-n l
+          ∙ ap (λ (x : List ℕ). sets out 0 (layoutOf (call s x [] .answer) (take 4096 (recordsOf s 4096)))) is-sc;
+      untouched = λ g. absurd (omega arith);
+    }
+
+pub nothing : {s out : List ℕ} → length out < 34080 → Told s out out
+nothing h = record { bytes = λ g. absurd (omega arith); untouched = λ _. refl }
+
+-- ## The collected rows
+
+pub no-rows : {s scratch : List ℕ} {room number position : ℕ} → readWith room s ≡ Refused number position → RowsOf s room 0 scratch
+unfolding rowsBy
+no-rows e = record { count = rw e refl; row = λ k h. absurd (omega arith) }
+
+pub some-rows : {s scratch : List ℕ} {room n e : ℕ} → readWith room s ≡ Next e → Collected s n scratch → RowsOf s room n scratch
+unfolding rowsBy
+some-rows e c = record { count = rw e (c .count); row = λ k h. rw e (c .row k h) }
