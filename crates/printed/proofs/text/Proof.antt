@@ -5,7 +5,8 @@ use mathlib.Core.Path.{_≡_}
 use native.Mathlib.Omega.{arith}
 use lib.ListN.{length, replicate, length-replicate}
 use Rattle.rules.specs.declared.Diagnostic.{Diagnostic}
-use Rattle.paged.specs.Paged.{capacity, blank}
+use Rattle.errors.specs.Records.{blank}
+use Rattle.paged.specs.Paged.{capacity}
 use Rattle.lines.proofs.Whole.{wrote-meant}
 use Rattle.printed.proofs.Shown.{text-is}
 use Rattle.printed.proofs.text.Statement.{statement}
