@@ -14,7 +14,8 @@ use Rattle.rules.specs.Collect.{none}
 use Rattle.rules.specs.View.{Ptr, Fn, is, shown, CxxFunction, RustFunction, itemIs, itemName, fieldCount, field}
 use Rattle.rules.specs.View.{functionUnsafe, functionUnwind, isMethod, isFree, selfType, receiverMutable, return, hasReturn, argCount, arg}
 use Rattle.rules.specs.Types.{Types}
-use Rattle.rules.specs.Check.{Default, isBit, ExternType, static, describe, may-have-lifetimes, is-lifetime-mut, check-mut-return-restriction, check-fn-receiver, check-fn-self-type}
+use Rattle.rules.specs.Check.{Default, isBit, ExternType, static, describe, may-have-lifetimes, is-lifetime-mut, check-mut-return-restriction}
+use Rattle.rules.specs.Check.{check-fn-receiver, check-fn-self-type}
 use Rattle.names.specs.Table.{wordsAt}
 use Rattle.typecheck_rows.specs.Tables.{tabled, marked}
 use Rattle.typecheck.specs.Tables.{byName}
