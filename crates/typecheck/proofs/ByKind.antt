@@ -37,8 +37,8 @@ module _ (s : List ℕ) (t : Types) (i : ℕ) where
 abbrev functionKind : ℕ → Bool
 functionKind k = eqb k CxxFunction || eqb k RustFunction
 
-pub function-given : {s sets untrusted lastType reasons sizes muts : List ℕ} {i k : ℕ} → ItemGiven s sets untrusted lastType reasons sizes muts i → itemKind s i ≡ k
-    → functionKind k ≡ true → FunctionGiven s sets lastType sizes muts i
+pub function-given : {s sets untrusted lastType reasons sizes muts : List ℕ} {i k : ℕ} → ItemGiven s sets untrusted lastType reasons sizes muts i
+    → itemKind s i ≡ k → functionKind k ≡ true → FunctionGiven s sets lastType sizes muts i
 function-given {s} {i = i} {k} given e h =
     record {
       rows = given .tables .rows;

@@ -1,9 +1,9 @@
 -- What `do_typecheck` is given, as its two loops and its two tables over the rows need it.
 -- Assumes nothing.
 use Prim.Native.Nat.{ℕ, _≤_, _<_}
-use mathlib.Core.Path.{_≡_, sym, ap, _∙_}
+use mathlib.Core.Path.{_≡_, ap, _∙_}
 use mathlib.Core.List.{List}
-use lib.ListN.{length, getD}
+use lib.ListN.{getD}
 use Rattle.rules.specs.View.{rows}
 use Rattle.rules.specs.Types.{Types, typesOf}
 use Rattle.rules.specs.Check.{is-unsized}

@@ -23,7 +23,7 @@ use Rattle.laws.proofs.Accepted.Items.{FunctionOf}
 use Rattle.typecheck_rows.specs.Tables.{tabled, RowTables}
 use Rattle.typecheck_rows.proofs.UnsizedTable.{sized}
 use Rattle.typecheck.specs.Tables.{byName}
-use Rattle.typecheck.specs.Tests.{untrustedType, requiredType, structField, functionArg, functionReturn, fnKind}
+use Rattle.typecheck.specs.Tests.{untrustedType, requiredType, structField, structFields, functionArg, functionArgs, functionReturn, fnKind}
 use Rattle.typecheck.proofs.ByName.{last-untrusted, reason-count}
 
 over-same : (n : ℕ) (f g : ℕ → List Diagnostic) → ((k : ℕ) → k < n → f k ≡ g k) → over n f ≡ over n g
@@ -50,11 +50,12 @@ module _ (s w : List ℕ) (held : tabled s w ≡ typesOf s) (i : ℕ) where
 
 module _ {s w u : List ℕ} (q : RowTables s w u) (i : ℕ) where
   field-meant : (j : ℕ) → field s i j < rows s → structField s w u i j (field s i j) ≡ check-struct-field s (typesOf s) i j
-  unfolding check-struct-field
+  unfolding structField check-struct-field
   field-meant j l = rw (sized q (field s i j) l) (ap (λ (t : Types). check-struct-field s t i j) (q .sets-held))
 
   pub fields-meant : ((j : ℕ) → j < fieldCount s i → field s i j < rows s)
-      → over (fieldCount s i) (λ j. structField s w u i j (field s i j)) ≡ over (fieldCount s i) (check-struct-field s (typesOf s) i)
+      → structFields s w u i ≡ over (fieldCount s i) (check-struct-field s (typesOf s) i)
+  unfolding structFields
   fields-meant below = over-same (fieldCount s i) _ _ (λ j l. field-meant j (below j l))
 
   pub kind-meant : fnKind s (tabled s w) i ≡ fnKind s (typesOf s) i
@@ -63,11 +64,11 @@ module _ {s w u : List ℕ} (q : RowTables s w u) (i : ℕ) where
   module _ (f : FunctionOf s i) where
     arg-meant : (j : ℕ) → arg s i j < rows s
         → functionArg s w u i j (arg s i j) (itemIs s RustFunction i) (not (functionUnsafe s i)) ≡ check-fn-arg s (typesOf s) i j
-    unfolding check-fn-arg
+    unfolding functionArg check-fn-arg
     arg-meant j l = rw (sized q (arg s i j) l) (ap (λ (t : Types). check-fn-arg s t i j) (q .sets-held))
 
-    pub args-meant : over (argCount s i) (λ j. functionArg s w u i j (arg s i j) (itemIs s RustFunction i) (not (functionUnsafe s i)))
-        ≡ over (argCount s i) (check-fn-arg s (typesOf s) i)
+    pub args-meant : functionArgs s w u i ≡ over (argCount s i) (check-fn-arg s (typesOf s) i)
+    unfolding functionArgs
     args-meant = over-same (argCount s i) _ _ (λ j l. arg-meant j (f .arg-below j l))
 
     return-below : hasReturn s i ≡ true → return s i < rows s
@@ -79,7 +80,7 @@ module _ {s w u : List ℕ} (q : RowTables s w u) (i : ℕ) where
         by (inr b) = b
 
     return-by : (b : Bool) → hasReturn s i ≡ b → functionReturn s w u i ≡ check-fn-return s (tabled s w) i
-    unfolding check-fn-return if_then_else_
+    unfolding functionReturn check-fn-return if_then_else_
     return-by true e = rw (sized q (return s i) (return-below e))
     return-by false e = rw e
 

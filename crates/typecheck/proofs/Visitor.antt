@@ -82,7 +82,8 @@ mut-rows s t u e right r l = sym (right r (rows s) (rw e l) l)
 
 -- the arguments of a function item
 module _ (s : List ℕ) (t : Types) (i : ℕ) (u : List ℕ) where
-  pub any-args : LifetimeMutRows s t u → ((j : ℕ) → j < argCount s i → arg s i j < rows s) → anyOf (marked u) (args s i) ≡ anyOf (find-lifetime-mut s t (rows s)) (args s i)
+  pub any-args : LifetimeMutRows s t u → ((j : ℕ) → j < argCount s i → arg s i j < rows s)
+      → anyOf (marked u) (args s i) ≡ anyOf (find-lifetime-mut s t (rows s)) (args s i)
   unfolding args entries arg argCount
   any-args right below =
       any-same (marked u) (find-lifetime-mut s t (rows s)) (args s i) (λ x h.

@@ -23,31 +23,31 @@ LifetimeMutRows s t u = (r : ℕ) → r < rows s → marked u r ≡ find-lifetim
 
 -- ## One item
 
--- a struct: its fields are rows, and its name may have an untrusted CxxType
+-- item i is a struct; lent are what a row's check is lent, and each name's last untrusted CxxType
 pub record StructGiven (s sets untrusted sizes : List ℕ) (i : ℕ) : Type 0 where
   pub rows : RowTables s sets sizes
   pub last-untrusted : untrusted ≡ typesOf s .lastUntrusted
   pub below : i < items s
   pub struct : itemKind s i ≡ Struct
 
--- an extern type: its name may have to be trivial, for a number of reasons
+-- an extern type: lent are the sets, and each name's count of reasons to be trivial
 pub record TypeGiven (s sets reasons : List ℕ) : Type 0 where
   pub sets-held : tabled s sets ≡ typesOf s
   pub reason-counts : reasons ≡ typesOf s .reasons
 
--- the visitor `FindLifetimeMut` looks names up
+-- the visitor `FindLifetimeMut`: lent is each name's last item that is a type
 pub record VisitorGiven (s lastType : List ℕ) : Type 0 where
   pub accepted : Accepted s
   pub last-type : lastType ≡ typesOf s .lastType
 
--- a function, for its &mut return: what the visitor found in the rows is lent
+-- the &mut return of item i, a function: lent is also the table of what the visitor finds
 pub record MutReturnGiven (s lastType muts : List ℕ) (i : ℕ) : Type 0 where
   pub visitor : VisitorGiven s lastType
   pub muts-right : LifetimeMutRows s (typesOf s) muts
   pub below : i < items s
   pub function : isFunction s i ≡ true
 
--- a function, for all of its checks
+-- all checks of item i, a function
 pub record FunctionGiven (s sets lastType sizes muts : List ℕ) (i : ℕ) : Type 0 where
   pub rows : RowTables s sets sizes
   pub mut-return : MutReturnGiven s lastType muts i

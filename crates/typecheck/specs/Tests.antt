@@ -7,13 +7,15 @@ use mathlib.Core.Bool.{Bool, true, not, _&&_, _||_}
 use lib.Dec.{eqb}
 use Rattle.rules.specs.declared.Place.the-variants.{I, F, A, O, D, L}
 use Rattle.rules.specs.declared.Diagnostic.{Diagnostic}
-use Rattle.rules.specs.Base.{if_then_else_, anyOf}
+use Rattle.rules.specs.Base.{if_then_else_, over, anyOf}
 use Rattle.rules.specs.Diagnostics.{say, tell, when}
 use Rattle.rules.specs.Names.{_∋_}
 use Rattle.rules.specs.Collect.{none}
-use Rattle.rules.specs.View.{Ptr, Fn, is, shown, CxxFunction, itemIs, itemName, functionUnwind, isMethod, isFree, selfType, receiverMutable, return, hasReturn}
+use Rattle.rules.specs.View.{Ptr, Fn, is, shown, CxxFunction, RustFunction, itemIs, itemName, fieldCount, field}
+use Rattle.rules.specs.View.{functionUnsafe, functionUnwind, isMethod, isFree, selfType, receiverMutable, return, hasReturn, argCount, arg}
 use Rattle.rules.specs.Types.{Types}
-use Rattle.rules.specs.Check.{Default, isBit, ExternType, static, describe, may-have-lifetimes, is-lifetime-mut, check-mut-return-restriction, check-fn-receiver, check-fn-self-type}
+use Rattle.rules.specs.Check.{Default, isBit, ExternType, static, describe, may-have-lifetimes, is-lifetime-mut, check-mut-return-restriction}
+use Rattle.rules.specs.Check.{check-fn-receiver, check-fn-self-type}
 use Rattle.names.specs.Table.{wordsAt}
 use Rattle.typecheck_rows.specs.Tables.{tabled, marked}
 use Rattle.typecheck.specs.Tables.{byName}
@@ -48,17 +50,23 @@ requiredType s w n i = when (wordsAt w 6 ∋ itemName s i) (tell 38 (I i) (byNam
 
 module _ (s sets sizes : List ℕ) (i : ℕ) where
   -- field j is row r
-  abbrev pub structField : (j r : ℕ) → List Diagnostic
+  unfoldable pub structField : (j r : ℕ) → List Diagnostic
   structField j r = if is s Fn r then say 31 (F i j) else when (marked sizes r) (tell 32 (F i j) (describe s (tabled s sets) r))
 
+  unfoldable pub structFields : List Diagnostic
+  structFields = over (fieldCount s i) (λ j. structField j (field s i j))
+
   -- argument j is row r; the function is of Rust or of C++, and safe or not
-  abbrev pub functionArg : (j r : ℕ) (rust safe : Bool) → List Diagnostic
+  unfoldable pub functionArg : (j r : ℕ) (rust safe : Bool) → List Diagnostic
   functionArg j r rust safe =
       if is s Fn r then when rust (say 47 (A i j)) else
       if is s Ptr r then when safe (say 48 (A i j)) else
       when (marked sizes r) (tell 49 (A i j) (describe s (tabled s sets) r))
 
-  abbrev pub functionReturn : List Diagnostic
+  unfoldable pub functionArgs : List Diagnostic
+  functionArgs = over (argCount s i) (λ j. functionArg j (arg s i j) (itemIs s RustFunction i) (not (functionUnsafe s i)))
+
+  unfoldable pub functionReturn : List Diagnostic
   functionReturn =
       let r = return s i in
       if not (hasReturn s i) then [] else

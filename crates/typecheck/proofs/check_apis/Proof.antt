@@ -1,4 +1,4 @@
--- `typecheck::check_apis` meets its contract: the items before j have given their messages. Assumes nothing.
+-- `typecheck::check_apis` meets its contract: the items before i have given their messages. Assumes nothing.
 use borrow.Author.Needs.{needs}
 use Prim.Native.Nat.{_≤_, _-_}
 use mathlib.Core.Path.{_≡_, refl, _∙_}
@@ -12,11 +12,11 @@ use Rattle.typecheck.proofs.check_apis.Statement.{statement}
 use Rattle.typecheck.proofs.check_apis.Tie as tie
 
 abbrev Inv-loop : tie.InvT-loop
-Inv-loop s sets untrusted last-type reasons sizes muts out₀ n e₀ j₀ out e j = (length out ≡ length out₀) × (j ≤ n) ×
-    Reported out₀ e₀ (over j (check-api s (typesOf s))) e out
+Inv-loop s sets untrusted last-type reasons sizes muts out₀ n e₀ i₀ out e i = (length out ≡ length out₀) × (i ≤ n) ×
+    Reported out₀ e₀ (over i (check-api s (typesOf s))) e out
 
 abbrev μ-loop : tie.MeasureT-loop
-μ-loop s sets untrusted last-type reasons sizes muts out₀ n e₀ j₀ out e j = n - j
+μ-loop s sets untrusted last-type reasons sizes muts out₀ n e₀ i₀ out e i = n - i
 
 items-requires : tie.Need-items-requires Inv-loop μ-loop
 items-requires c κs = search needs
@@ -24,8 +24,8 @@ items-requires c κs = search needs
 loop-holds : tie.Need-loop-holds Inv-loop μ-loop
 loop-holds c = (refl, omega arith, start _ _ _)
 
-add-j : tie.Need-add-j Inv-loop μ-loop
-add-j c = omega arith
+add-i : tie.Need-add-i Inv-loop μ-loop
+add-i c = omega arith
 
 check-api-requires : tie.Need-check-api-requires Inv-loop μ-loop
 check-api-requires c κs =
@@ -55,7 +55,7 @@ returns : tie.Need-returns Inv-loop μ-loop
 returns c =
     let items = c .before .before .items in
     let loop = c .before .loop in
-    let e : loop .j ≡ items .result = omega arith in
+    let e : loop .i ≡ items .result = omega arith in
     whole _ (loop .inv .2) (e ∙ items .ensures)
 
 pub check-apis-spec : {M : Type 1} → statement M
@@ -66,7 +66,7 @@ check-apis-spec =
     μ-loop
     items-requires
     loop-holds
-    add-j
+    add-i
     check-api-requires
     loop-less
     loop-again

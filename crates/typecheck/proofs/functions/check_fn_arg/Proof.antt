@@ -2,6 +2,7 @@
 use borrow.Author.Needs.{needs}
 use Rattle.rules.specs.Diagnostics.{when}
 use Rattle.errors.specs.Sink.{taken, left, when-taken, when-left, none}
+use Rattle.typecheck.specs.Tests.{functionArg}
 use Rattle.typecheck.proofs.functions.check_fn_arg.Statement.{statement}
 use Rattle.typecheck.proofs.functions.check_fn_arg.Tie as tie
 
@@ -15,7 +16,7 @@ same-length : tie.Need-same-length
 same-length c = search needs
 
 returns : tie.Need-returns
-unfolding when
+unfolding functionArg when
 returns c =
     let is = c .before .before .before .before .before .is in
     let if1 = c .before .before .before .before .if1 in
@@ -32,7 +33,7 @@ same-length-2 : tie.Need-same-length-2
 same-length-2 c = search needs
 
 returns-2 : tie.Need-returns-2
-unfolding when
+unfolding functionArg when
 returns-2 c =
     let is = c .before .before .before .before .before .before .before .is in
     let if1 = c .before .before .before .before .before .before .if1 in
@@ -54,7 +55,7 @@ same-length-3 : tie.Need-same-length-3
 same-length-3 c = search needs
 
 returns-3 : tie.Need-returns-3
-unfolding when
+unfolding functionArg when
 returns-3 c =
     let is = c .before .before .before .before .before .before .before .before .before .before .is in
     let if1 = c .before .before .before .before .before .before .before .before .before .if1 in
@@ -70,7 +71,7 @@ returns-3 c =
     (is2 .ensures)) (is .ensures)
 
 returns-4 : tie.Need-returns-4
-unfolding when
+unfolding functionArg when
 returns-4 c =
     let is = c .before .before .before .before .before .is in
     let if1 = c .before .before .before .before .if1 in

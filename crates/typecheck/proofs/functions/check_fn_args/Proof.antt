@@ -8,7 +8,7 @@ use Rattle.rules.specs.Base.{over}
 use Rattle.rules.specs.View.{RustFunction, itemIs, functionUnsafe, arg, argCount}
 use Rattle.errors.specs.Sink.{Reported, start, turn, whole}
 use mathlib.Core.Bool.{not}
-use Rattle.typecheck.specs.Tests.{functionArg}
+use Rattle.typecheck.specs.Tests.{functionArg, functionArgs}
 use Rattle.typecheck.proofs.functions.check_fn_args.Statement.{statement}
 use Rattle.typecheck.proofs.functions.check_fn_args.Tie as tie
 
@@ -73,7 +73,7 @@ same-length c =
     loop .inv .0
 
 returns : tie.Need-returns Inv-loop μ-loop
-unfolding argCount
+unfolding functionArgs argCount
 returns c =
     let return-place = c .before .before .before .return-place in
     let pair-at = c .before .before .pair-at in

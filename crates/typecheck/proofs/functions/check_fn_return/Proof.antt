@@ -4,6 +4,7 @@ use mathlib.Core.Path.{ap}
 use mathlib.Core.Bool.{not}
 use Rattle.rules.specs.Diagnostics.{when}
 use Rattle.errors.specs.Sink.{taken, left, when-taken, when-left, none}
+use Rattle.typecheck.specs.Tests.{functionReturn}
 use Rattle.typecheck.proofs.functions.check_fn_return.Statement.{statement}
 use Rattle.typecheck.proofs.functions.check_fn_return.Tie as tie
 
@@ -11,7 +12,7 @@ has-return-requires : tie.Need-has-return-requires
 has-return-requires c κs = search needs
 
 returns : tie.Need-returns
-unfolding when
+unfolding functionReturn when
 returns c =
     let has-return = c .before .has-return in
     taken _ _ (c .if1 .taken) (none _ _) (ap not (has-return .ensures))
@@ -29,7 +30,7 @@ same-length : tie.Need-same-length
 same-length c = search needs
 
 returns-2 : tie.Need-returns-2
-unfolding when
+unfolding functionReturn when
 returns-2 c =
     let has-return = c .before .before .before .before .before .before .before .before .has-return in
     let if1 = c .before .before .before .before .before .before .before .if1 in
@@ -52,7 +53,7 @@ same-length-2 : tie.Need-same-length-2
 same-length-2 c = search needs
 
 returns-3 : tie.Need-returns-3
-unfolding when
+unfolding functionReturn when
 returns-3 c =
     let has-return = c .before .before .before .before .before .before .before .before .before .before .before .has-return in
     let if1 = c .before .before .before .before .before .before .before .before .before .before .if1 in
@@ -71,7 +72,7 @@ returns-3 c =
     (ap not (has-return .ensures))
 
 returns-4 : tie.Need-returns-4
-unfolding when
+unfolding functionReturn when
 returns-4 c =
     let has-return = c .before .before .before .before .before .before .has-return in
     let if1 = c .before .before .before .before .before .if1 in

@@ -56,7 +56,9 @@ returns c =
     let fields = item-of _ (given .rows .accepted) _ (given .below) .as-struct (given .struct) .field-below in
     also (also (also
     (also-if _ (also (check-reserved-name .ensures) (check-lifetimes .ensures)) (item-error .ensures) (rw (field-count .ensures)))
-    (meant (check-untrusted .ensures) (untrusted-meant _ _ (given .rows .sets-held) _ (given .last-untrusted)))) (check-struct-derives .ensures)) (meant (check-struct-fields .ensures) (fields-meant (given .rows) _ fields))
+    (meant (check-untrusted .ensures) (untrusted-meant _ _ (given .rows .sets-held) _ (given .last-untrusted))))
+    (check-struct-derives .ensures))
+    (meant (check-struct-fields .ensures) (fields-meant (given .rows) _ fields))
 
 pub check-api-struct-spec : {M : Type 1} → statement M
 check-api-struct-spec =

@@ -2,6 +2,7 @@
 use borrow.Author.Needs.{needs}
 use Rattle.rules.specs.Diagnostics.{when}
 use Rattle.errors.specs.Sink.{taken, left, when-taken, when-left, none}
+use Rattle.typecheck.specs.Tests.{structField}
 use Rattle.typecheck.proofs.items.check_struct_field.Statement.{statement}
 use Rattle.typecheck.proofs.items.check_struct_field.Tie as tie
 
@@ -15,7 +16,7 @@ same-length : tie.Need-same-length
 same-length c = search needs
 
 returns : tie.Need-returns
-unfolding when
+unfolding structField when
 returns c =
     let is = c .before .before .before .before .before .is in
     let if1 = c .before .before .before .before .if1 in
@@ -35,7 +36,7 @@ same-length-2 : tie.Need-same-length-2
 same-length-2 c = search needs
 
 returns-2 : tie.Need-returns-2
-unfolding when
+unfolding structField when
 returns-2 c =
     let is = c .before .before .before .before .before .before .before .before .is in
     let if1 = c .before .before .before .before .before .before .before .if1 in
@@ -48,7 +49,7 @@ returns-2 c =
     (is .ensures)
 
 returns-3 : tie.Need-returns-3
-unfolding when
+unfolding structField when
 returns-3 c =
     let is = c .before .before .before .is in
     let if1 = c .before .before .if1 in

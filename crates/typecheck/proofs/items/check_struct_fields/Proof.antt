@@ -7,7 +7,7 @@ use lib.ListN.{length}
 use Rattle.rules.specs.Base.{over}
 use Rattle.rules.specs.View.{field, fieldCount}
 use Rattle.errors.specs.Sink.{Reported, start, turn, whole}
-use Rattle.typecheck.specs.Tests.{structField}
+use Rattle.typecheck.specs.Tests.{structField, structFields}
 use Rattle.typecheck.proofs.items.check_struct_fields.Statement.{statement}
 use Rattle.typecheck.proofs.items.check_struct_fields.Tie as tie
 
@@ -61,7 +61,7 @@ same-length c =
     loop .inv .0
 
 returns : tie.Need-returns Inv-loop μ-loop
-unfolding fieldCount
+unfolding structFields fieldCount
 returns c =
     let rest = c .before .before .before .rest in
     let pair-at = c .before .before .pair-at in
