@@ -1,1 +1,1 @@
-mod Told
+mod Asked

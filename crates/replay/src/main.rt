@@ -1,5 +1,7 @@
 // Replays the stored answers of the original Rust (testdata/answers.bin, on standard input): every part of each answer, the collected rows and the
 // records are compared with what the port says of the same sheet. Prints a line of counts, and before it the first sheets that differ.
+ghost use Rattle.io.specs.Counts.{Counts};
+
 mod input; // the stored file
 mod port; // what the port says of a sheet
 
@@ -232,7 +234,30 @@ fn tallied(t: Tally, part: u8, verdict: u8, records: u32) -> Tally {
     }
 }
 
-// Reads the next sheet, asks the port, and compares with the stored answer.
+// What comes of one sheet: the part that differs, the port's verdict and its count of records.
+struct Found {
+    part: u8,
+    verdict: u8,
+    records: u32,
+}
+
+// Asks the port about the sheet in the first n bytes, and compares with the stored answer, which is next on the input.
+fn judge(buf: &mut [u8], n: usize) -> Found
+    requires { ⌜ Counts n (now buf) ⌝ }
+{
+    let mut ours = [0u8; port::ROOM];
+    let mut rows = [0u8; 4096];
+    port::answer(&buf[..n], &mut ours);
+    let count = port::rows(&buf[..n], &mut rows);
+    let part = first_different(buf, &ours, &rows, count);
+    Found {
+        part,
+        verdict: ours[0],
+        records: long_at(&ours, 12),
+    }
+}
+
+// Reads the next sheet, and judges it.
 fn next(t: Tally, number: usize, buf: &mut [u8]) -> Tally {
     if take(buf, 4) < 4 {
         return stopped(t);
@@ -242,15 +267,12 @@ fn next(t: Tally, number: usize, buf: &mut [u8]) -> Tally {
     if got < n {
         return stopped(t);
     }
-    let mut ours = [0u8; port::ROOM];
-    let mut rows = [0u8; 4096];
-    port::answer(&buf[..got], &mut ours);
-    let count = port::rows(&buf[..got], &mut rows);
-    let part = first_different(buf, &ours, &rows, count);
+    let j = judge(buf, got);
+    let part = j.part;
     if t.different < 8 {
         print_difference(number, part);
     }
-    tallied(t, part, ours[0], long_at(&ours, 12))
+    tallied(t, part, j.verdict, j.records)
 }
 
 // All sheets, at most as many as the file says.

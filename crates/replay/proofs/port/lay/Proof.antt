@@ -1,26 +1,21 @@
+-- `replay::port::lay` stores an answer, and records behind it.
+-- Assumes nothing.
 use borrow.Author.Needs.{needs}
+use Rattle.replay.proofs.Asked.{laid}
 use Rattle.replay.proofs.port.lay.Statement.{statement}
 use Rattle.replay.proofs.port.lay.Tie as tie
-use Rattle.replay.proofs.port.lay.Reads as reads
-use Rattle.replay.proofs.port.lay.Lts as lts
-use Rattle.layout.proofs.write.Reads as write-reads
-use Rattle.replay.proofs.port.put_records.Reads as put-records-reads
 
--- src/port.rt:66:5
 write-requires : tie.Need-write-requires
 write-requires c κs = search needs
 
--- src/port.rt:67:5
 put-records-requires : tie.Need-put-records-requires
 put-records-requires c κs = search needs
 
--- src/port.rt:62:1
 same-length : tie.Need-same-length
 same-length c = search needs
 
--- src/port.rt:62:1
 returns : tie.Need-returns
-returns c = ?
+returns c = let put = c .before .before in let write = put .before .before .before .before in let begin = write .before .before .before in laid (begin .pre .1) (begin .pre .0) (write .write .ensures) (put .put-records .ensures .0)
 
 pub lay-spec : {M : Type 1} → statement M
 lay-spec = tie.close (tie.spec write-requires put-records-requires same-length returns)

@@ -1,38 +1,32 @@
+-- `replay::port::rows`, by whether the reader refuses.
+-- Assumes nothing.
 use borrow.Author.Needs.{needs}
+use mathlib.Core.Path.{sym, _∙_}
+use Rattle.bridge_core.proofs.RunCases.{collectable}
+use Rattle.replay.proofs.Asked.{no-rows, some-rows}
 use Rattle.replay.proofs.port.rows.Statement.{statement}
 use Rattle.replay.proofs.port.rows.Tie as tie
-use Rattle.replay.proofs.port.rows.Reads as reads
-use Rattle.replay.proofs.port.rows.Lts as lts
-use Rattle.replay.proofs.port.collect.Reads as collect-reads
-use Rattle.sheet.proofs.read.read_with.Reads as read-with-reads
 
--- src/port.rt:101:9
 read-with-requires : tie.Need-read-with-requires
 read-with-requires c κs = search needs
 
--- src/port.rt:103:33
 enum-told : tie.Need-enum-told
 enum-told c = search needs
 
--- src/port.rt:104:37
 enum-told-2 : tie.Need-enum-told-2
 enum-told-2 c = search needs
 
--- src/port.rt:104:26
 collect-requires : tie.Need-collect-requires
-collect-requires c κs = ?
+collect-requires c κs = collectable _ _ _ (sym (c .before .before .before .read-with .ensures) ∙ c .before .enum-told2 .given .1)
 
--- src/port.rt:98:1
 returns : tie.Need-returns
-returns c = ?
+returns c = no-rows (sym (c .before .before .read-with .ensures) ∙ c .enum-told .given .1)
 
--- src/port.rt:98:1
 same-length : tie.Need-same-length
 same-length c = search needs
 
--- src/port.rt:98:1
 returns-2 : tie.Need-returns-2
-returns-2 c = ?
+returns-2 c = let made = c .before .before in some-rows (sym (made .before .before .before .before .read-with .ensures) ∙ made .before .before .enum-told2 .given .1) (made .collect .ensures)
 
 pub rows-spec : {M : Type 1} → statement M
 rows-spec =

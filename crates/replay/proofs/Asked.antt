@@ -1,5 +1,5 @@
--- What `replay` asks of the port is what the call answers: an answer and records behind it (`laid`), of the page that the call fills (`told`); no room
--- (`nothing`); and the collected rows, by what the reader says (`no-rows`, `some-rows`).
+-- What `replay` asks of the port is what the call answers: a record's bytes (`recorded`), an answer and records behind it (`laid`), of the page that the call
+-- fills (`told`); no room (`nothing`); and the collected rows, by what the reader says (`no-rows`, `some-rows`).
 -- Assumes nothing.
 use Prim.Native.Nat.{ℕ, _+_, _-_, _*_, _/_, _≤_, _<_, min}
 use mathlib.Core.Path.{_≡_, refl, sym, ap, _∙_, subst}
@@ -16,8 +16,13 @@ use Rattle.rules.specs.Base.{if_then_else_}
 use Rattle.rules.specs.Format.{pairAt}
 use Rattle.rules.specs.Answer.{readWith, call}
 use Rattle.laws.proofs.Lists.{sets-first}
-use Rattle.errors.specs.Records.{recordBytes}
-use Rattle.errors.proofs.Stores.{sets-append}
+use Rattle.rules.specs.Diagnostics.{letterOf, numbersOf}
+use Rattle.errors.specs.declared.Errors.{Errors}
+use Rattle.errors.specs.Bytes.{low8, Stored}
+use Rattle.errors.specs.Records.{recordWith, recordBytes}
+use Rattle.errors.proofs.Stores.{sets-append, sized, meant}
+use Rattle.types.specs.declared.Collected.{Collected as Code}
+use Rattle.types.specs.Post.{Collects}
 use Rattle.bridge_core.specs.Run.{answerOf, recordsOf}
 use Rattle.bridge_core.proofs.RunLaws.{total-is, call-answer, call-list}
 use Rattle.layout.specs.Layout.{answerBytes, layoutOf, fitting, headed, Written}
@@ -26,18 +31,27 @@ use Rattle.replay.specs.Port.{Laid, Told, Collected, rowsBy, RowsOf}
 
 -- ## Records behind an answer
 
+pub recorded : {b b′ : List ℕ} {at k a y : ℕ} (code : ℕ) (d : Diagnostic) → Stored b at 8 (low8 code) b′ → low8 code ≡ recordWith (d .message) k a y (d .detail)
+    → k ≡ letterOf (d .place) → a ≡ getD (numbersOf (d .place)) 0 0 → y ≡ getD (numbersOf (d .place)) 1 0 → Put b at (recordBytes d) (at + 8) b′
+unfolding recordBytes
+recorded {k = k} {a} {y} code d p e f g h =
+    let numbers : recordWith (d .message) k a y (d .detail) ≡ recordBytes d = rw (f, g, h) in
+    let q = meant p (e ∙ numbers) in
+    record { stored = sized q (sym (q .long)); reached = omega (arith, q .long) }
+
 pub laid : {a : Answer} {ds : List Diagnostic} {n r q : ℕ} {out out₁ out₂ : List ℕ} → 34080 ≤ length out → n ≤ 4096 → Written a n out r out₁
     → Put out₁ 1312 (flatMap recordBytes ds) q out₂ → Laid a ds n out out₂
 unfolding headed fitting if_then_else_
 laid {a} {ds} {n} {out = out} {out₁} h k w p =
     let few : fitting n (length out) ≡ n = omega arith in
     let long : length (answerBytes a n) ≡ 1312 = subst (λ (m : ℕ). length (answerBytes a m) ≡ 1312) few (w .long (omega arith)) in
+    let behind : 1312 ≡ 0 + length (answerBytes a n) = omega (arith, long) in
     let front : out₁ ≡ sets out 0 (answerBytes a n) = rw (le-leb 1312 (length out) (omega arith), if_then_else_, few) at (w .bytes) in
     record {
       bytes =
           p .stored .stored
           ∙ ap (λ (l : List ℕ). sets l 1312 (flatMap recordBytes ds)) front
-          ∙ ap (λ (m : ℕ). sets (sets out 0 (answerBytes a n)) m (flatMap recordBytes ds)) (sym long)
+          ∙ ap (λ (m : ℕ). sets (sets out 0 (answerBytes a n)) m (flatMap recordBytes ds)) behind
           ∙ sets-append out 0 (answerBytes a n) (flatMap recordBytes ds);
     }
 
@@ -75,13 +89,13 @@ page m s sc out out′ a zs list n is-sc is-zs is-a is-list is-n l =
     ∙ ap (λ (k : ℕ). sets out 0 (answerBytes a k ++ flatMap recordBytes (take m ds))) count
     ∙ ap (λ (x : Answer). sets out 0 (answerBytes x (length (take m ds)) ++ flatMap recordBytes (take m ds))) same
 
-pub told : {s sc out out′ : List ℕ} {a : Answer} {blank : Diagnostic} {list : List Diagnostic} {n : ℕ} → sc ≡ replicate 4096 0
+pub told : {s sc out out′ : List ℕ} {a : Answer} (blank : Diagnostic) {list : List Diagnostic} {n : ℕ} → sc ≡ replicate 4096 0
     → a ≡ call s sc (replicate 4096 blank) .answer → list ≡ call s sc (replicate 4096 blank) .list → n ≡ min (a .total) 4096
     → Laid a (take n list) n out out′ → 34080 ≤ length out → Told s out out′
-told {s} {sc} {out} {out′} {a} {blank} {list} {n} is-sc is-a is-list is-n l h =
+told {s} {sc} {out} {out′} {a} blank {list} {n} is-sc is-a is-list is-n l h =
     record {
       bytes = λ _.
-          page 4096 s sc out out′ a (replicate 4096 blank) list n (ap length is-sc ∙ length-replicate 4096 0) (length-replicate 4096 blank) is-a is-list is-n l
+          page 4096 s sc out out′ a (replicate 4096 blank) list n (ap length is-sc ∙ length-replicate {A = ℕ} 4096 0) (length-replicate 4096 blank) is-a is-list is-n l
           ∙ ap (λ (x : List ℕ). sets out 0 (layoutOf (call s x [] .answer) (take 4096 (recordsOf s 4096)))) is-sc;
       untouched = λ g. absurd (omega arith);
     }
@@ -90,6 +104,9 @@ pub nothing : {s out : List ℕ} → length out < 34080 → Told s out out
 nothing h = record { bytes = λ g. absurd (omega arith); untouched = λ _. refl }
 
 -- ## The collected rows
+
+pub collected : {s sc sc′ out out′ : List ℕ} {cx : Errors} {r : Code} → Collects s sc sc′ out out′ cx r → Collected s (r .types .rows) sc′
+collected c = let e = c .types .rows in record { count = e; row = λ k h. c .rows k (omega arith) }
 
 pub no-rows : {s scratch : List ℕ} {room number position : ℕ} → readWith room s ≡ Refused number position → RowsOf s room 0 scratch
 unfolding rowsBy
