@@ -124,7 +124,7 @@ module _ (s : List ℕ) where
     pub no-more : (i : ℕ) → IsStruct i → (Endless i → ⊥) → (getD t i 0 ≡ 0) ⊎ ((k : ℕ) × Holds i k × (getD t i 0 ≡ min 254 (suc (getD t k 0))))
     pub others : (i : ℕ) → (IsStruct i → ⊥) → getD t i 0 ≡ 0
 
--- what holds of each call that is answered accepted: laws/proofs/Due.antt
+-- what holds of each call that is answered accepted: proofs/Due.antt of laws
 abbrev pub Due : Type 0
 Due =
     (s scratch : List ℕ) (list : List Diagnostic) → call s scratch list .answer .verdict ≡ Accepted
