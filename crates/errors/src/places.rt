@@ -1,4 +1,4 @@
-// A place in the paper's letters and numbers.
+// A place in the letters and numbers of docs/SHEET.md.
 ghost use mathlib.Core.Path.{_≡_};
 ghost use lib.ListN.{getD};
 ghost use Rattle.rules.specs.Diagnostics.{letterOf, numbersOf};

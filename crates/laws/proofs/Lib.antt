@@ -3,6 +3,7 @@ pub mod Counts
 pub mod Tests
 pub mod Sums
 pub mod Members
+pub mod Stores
 pub mod Lists
 pub mod Forms
 pub mod Flat

@@ -1,5 +1,5 @@
--- A list of one entry for each number below n: its length, and entry x of it. A run of stores from the first place on is what fits, and then what stood behind
--- it (`sets-first`): so the list as the call leaves it, and the answer's 255 places, a list and then zeros, which stand here by entries too.
+-- A list of one entry for each number below n: its length, and entry x of it. The list as the call leaves it and the answer's 255 places, a list and then zeros,
+-- are runs of stores from the first place on (Stores); the places stand here by entries too.
 -- Assumes nothing.
 use mathlib.Core.Path.{_≡_, refl, sym, ap, _∙_}
 use mathlib.Core.List.{List, [], _∷_, _++_}
@@ -12,6 +12,7 @@ use Rattle.rules.specs.declared.Diagnostic.{Diagnostic}
 use Rattle.rules.specs.Base.{over}
 use Rattle.rules.specs.Answer.{places, filled}
 use Rattle.laws.proofs.Counts.{Eq?, same, other, eq?}
+use Rattle.laws.proofs.Stores.{sets-first}
 
 module _ {A : Type 0} (f : ℕ → A) where
   pub over-length : (n : ℕ) → length (over n (λ j. f j ∷ [])) ≡ n
@@ -38,24 +39,6 @@ pub zeros-get : (k x : ℕ) → getD (replicate k 0) x 0 ≡ length {A = ℕ} []
 zeros-get zero x = refl
 zeros-get (suc k) zero = refl
 zeros-get (suc k) (suc x) = zeros-get k x
-
--- ## Stores from the first place on
-
-module _ {A : Type 0} where
-  sets-none : (i : ℕ) (xs : List A) → sets [] i xs ≡ []
-  sets-none i [] = refl
-  sets-none i (x ∷ xs) = sets-none (suc i) xs
-
-  sets-behind : (y : A) (b : List A) (i : ℕ) (xs : List A) → sets (y ∷ b) (suc i) xs ≡ y ∷ sets b i xs
-  sets-behind y b i [] = refl
-  sets-behind y b i (x ∷ xs) = sets-behind y (set b i x) (suc i) xs
-
-  -- what fits is stored, and what stands behind it is kept
-  pub sets-first : (b xs : List A) → sets b 0 xs ≡ take (length b) xs ++ drop (length xs) b
-  sets-first [] [] = refl
-  sets-first (y ∷ b) [] = refl
-  sets-first [] (x ∷ xs) = sets-none 1 xs
-  sets-first (y ∷ b) (x ∷ xs) = sets-behind x b 0 xs ∙ ap {B = List A} (λ l. x ∷ l) (sets-first b xs)
 
 -- ## A list, and then zeros
 

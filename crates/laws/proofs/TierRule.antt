@@ -12,7 +12,7 @@ use Rattle.laws.proofs.Chains.{Good, Edge, edge, link, Endless}
 use Rattle.laws.proofs.WalkOrder.{chain-end}
 use Rattle.laws.proofs.LongestChain.{largest-ge, largest-at, tier, tier-endless, tier-step, loops-endless, endless-loops}
 
--- the tier rule of document 01, over any graph
+-- the tier rule of docs/RULES.md, over any graph
 pub record TierRule (G : Graph) (t : ℕ → ℕ) : Type 0 where
   -- 255 where an endless chain starts
   pub endless : (x : ℕ) → T (G .struct x) → (t x ≡ 255) ↔ Endless G x

@@ -1,4 +1,4 @@
-// The lines of the program `report`, as bytes in a lent buffer: document 01, "The program `report`".
+// The lines of the program `report`, as bytes in a lent buffer: docs/RULES.md, "The program `report`".
 ghost use mathlib.Core.Path.{_≡_};
 ghost use mathlib.Core.List.{[], _∷_};
 ghost use Prim.Native.Nat.{_+_, _*_, _≤_, min};

@@ -22,7 +22,7 @@ use Rattle.rules.specs.Answer.{refused, readWith, call}
 use Rattle.rules.specs.Text.{printed, textOf, sheetText}
 use Rattle.bridge_core.specs.Run.{answerBy, recordsBy, answerOf, recordsOf}
 use Rattle.bridge_core.proofs.RunLaws.{total-is, call-answer, call-list}
-use Rattle.bridge.proofs.Stores.{sets-cut}
+use Rattle.laws.proofs.Stores.{sets-cut}
 use Rattle.lines.proofs.Whole.{text-shown}
 
 -- ## What a list keeps

@@ -5,8 +5,8 @@ use Prim.Native.Nat.{ℕ, _+_, _-_, _*_, _/_, _≤_, _<_, min}
 use mathlib.Core.Path.{_≡_, refl, sym, ap, _∙_, subst}
 use mathlib.Core.List.{List, [], _++_, flatMap}
 use native.Mathlib.Omega.{arith}
-use lib.ListN.{length, getD, take, drop, replicate, length-take, length-replicate}
-use lib.Seq.{sets, take-append-seam}
+use lib.ListN.{length, getD, take, replicate, length-take, length-replicate}
+use lib.Seq.{sets}
 use borrow.Author.Tests.{le-leb}
 use Rattle.rules.specs.declared.Step.{Step}
 use Rattle.rules.specs.declared.Step.the-variants.{Next, Refused}
@@ -15,12 +15,12 @@ use Rattle.rules.specs.declared.Diagnostic.{Diagnostic}
 use Rattle.rules.specs.Base.{if_then_else_}
 use Rattle.rules.specs.Format.{pairAt}
 use Rattle.rules.specs.Answer.{readWith, call}
-use Rattle.laws.proofs.Lists.{sets-first}
+use Rattle.laws.proofs.Stores.{sets-append, sets-kept}
 use Rattle.rules.specs.Diagnostics.{letterOf, numbersOf}
 use Rattle.errors.specs.declared.Errors.{Errors}
 use Rattle.errors.specs.Bytes.{low8, Stored}
 use Rattle.errors.specs.Records.{recordWith, recordBytes}
-use Rattle.errors.proofs.Stores.{sets-append, sized, meant}
+use Rattle.errors.proofs.Stores.{sized, meant}
 use Rattle.types.specs.declared.Collected.{Collected as Code}
 use Rattle.types.specs.Post.{Collects}
 use Rattle.bridge_core.specs.Run.{answerOf, recordsOf}
@@ -57,15 +57,6 @@ laid {a} {ds} {n} {out = out} {out₁} h k w p =
 
 -- ## The page
 
--- what a list keeps of the report: as many as it has places
-first-kept : {A : Type 0} (b xs : List A) → take (min (length xs) (length b)) (sets b 0 xs) ≡ take (length b) xs
-first-kept b xs =
-    let front = take (length b) xs in
-    let many : min (length xs) (length b) ≡ length front = omega (arith, length-take (length b) xs) in
-    ap (λ l. take (min (length xs) (length b)) l) (sets-first b xs)
-    ∙ ap (λ (m : ℕ). take m (front ++ drop (length xs) b)) many
-    ∙ take-append-seam front (drop (length xs) b)
-
 -- for a scratch of m bytes and a list of m places
 page : (m : ℕ) (s sc out out′ : List ℕ) (a : Answer) (zs list : List Diagnostic) (n : ℕ) → length sc ≡ m → length zs ≡ m → a ≡ call s sc zs .answer
     → list ≡ call s sc zs .list → n ≡ min (a .total) m → Laid a (take n list) n out out′
@@ -80,7 +71,7 @@ page m s sc out out′ a zs list n is-sc is-zs is-a is-list is-n l =
     let records : take n list ≡ take m ds =
     ap (λ (x : List Diagnostic). take n x) stored
     ∙ ap (λ (k : ℕ). take k (sets zs 0 ds)) many
-    ∙ first-kept zs ds
+    ∙ sets-kept zs ds
     ∙ ap (λ (k : ℕ). take k ds) is-zs in
     let count : n ≡ length (take m ds) = omega (arith, is-n, total, length-take m ds) in
     let same : a ≡ call s sc [] .answer = is-a ∙ sym (call-answer s sc zs) ∙ call-answer s sc [] in

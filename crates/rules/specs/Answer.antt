@@ -1,4 +1,4 @@
--- What one call answers, and how it leaves the list and the scratch: document 01, "The call" and "Refused sheets".
+-- What one call answers, and how it leaves the list and the scratch: docs/RULES.md, "The call".
 -- Assumes nothing: these are definitions.
 use Prim.Native.Nat.{ℕ, _-_}
 use mathlib.Core.List.{List, [], _∷_, _++_, map}
@@ -27,7 +27,7 @@ pub record Outcome : Type 0 where
   pub list : List Diagnostic
   pub scratch : List ℕ
 
--- document 01's number of a verdict, 0 where the sheet is accepted, and its position
+-- the number of a verdict in docs/SHEET.md, 0 where the sheet is accepted, and its position
 abbrev pub numberOf : Verdict → ℕ
 numberOf verdict.Accepted = 0
 numberOf (verdict.Refused number position) = number
@@ -65,7 +65,7 @@ refused number position =
 
 -- ## Accepted
 
--- the eight sets, in document 01's order
+-- the eight sets, in the order of docs/RULES.md
 unfoldable pub setsOf : Types → (improper : Words) → List Words
 setsOf t improper = t .structs ∷ t .enums ∷ t .cxx ∷ t .rust ∷ t .aliases ∷ t .untrusted ∷ t .requiredTrivial ∷ improper ∷ []
 

@@ -20,7 +20,7 @@ use Rattle.rules.specs.Report.{reportOf, report}
 use Rattle.rules.specs.Answer.{refused, setsOf, places, accepted, readWith, filled, cleared, call}
 use Rattle.rules.specs.Answer.{Outcome}
 
--- a number for each pair, as document 01 writes a sheet
+-- a number for each pair, as docs/SHEET.md writes a sheet
 abbrev pub bytes : List ℕ → List ℕ
 bytes [] = []
 bytes (p ∷ ps) = p % 256 ∷ p / 256 ∷ bytes ps

@@ -1,4 +1,4 @@
--- Diagnostics, and lists of them: document 01, "Diagnostics".
+-- Diagnostics, and lists of them: docs/RULES.md, "Diagnostics".
 -- Assumes nothing: these are definitions.
 use Prim.Native.Nat.{ℕ, _<_}
 use mathlib.Core.List.{List, [], _∷_}
@@ -23,7 +23,7 @@ abbrev pub bit : Bool → ℕ
 bit true = 1
 bit false = 0
 
--- ## A place in the paper's letters and numbers
+-- ## A place in the letters and numbers of docs/SHEET.md
 
 -- the letter, as a byte
 abbrev pub letterOf : Place → ℕ

@@ -1,4 +1,4 @@
--- The eleven sheets of document 01, "Proved set", in one table with what is expected of each, and one theorem; and the examples of the refusal table.
+-- The eleven sheets of docs/RULES.md, in one table with what is expected of each, and one theorem; and the examples of the refusal table.
 -- Assumes nothing.
 use Prim.Native.Nat.{ℕ, zero, suc}
 use mathlib.Core.Path.{_≡_, refl}

@@ -1,4 +1,4 @@
--- Which lists of bytes are bridge sheets, and which refusal any other list gets: document 01, "The sheet" and "Refused sheets".
+-- Which lists of bytes are bridge sheets, and which refusal any other list gets: docs/SHEET.md.
 -- A step of the reader goes from a place to the place after what it read, or to a refusal with its number and position.
 -- Assumes nothing: these are definitions.
 use Prim.Native.Nat.{ℕ, zero, suc, _+_, _-_, _*_}

@@ -1,4 +1,4 @@
--- Names 0 to 255, and sets of them: document 01, "The sheet" and "Collecting". A set is four words of 64 bits, name n being bit n % 64 of word n / 64.
+-- Names 0 to 255, and sets of them: docs/SHEET.md, "Names". A set is four words of 64 bits, name n being bit n % 64 of word n / 64.
 -- Assumes nothing: these are definitions.
 use Prim.Native.Nat.{ℕ, zero, suc, _+_, _/_, _%_, _^_}
 use mathlib.Core.Bool.{Bool, true, false}

@@ -1,4 +1,4 @@
--- What the program `report` prints: document 01, "The program `report`". Text is bytes, as ASCII has them.
+-- What the program `report` prints: docs/RULES.md, "The program `report`". Text is bytes, as ASCII has them.
 -- Assumes nothing: these are definitions.
 use Prim.Native.Nat.{ℕ, zero, suc, _+_, _/_, _%_}
 use Prim.Native.Char.{code}

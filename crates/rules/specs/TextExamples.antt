@@ -1,4 +1,4 @@
--- What is printed for document 01's worked sheet, for two more of its proved set and for a refusal, byte for byte; and of more than 512 records the first 512.
+-- What is printed for the worked sheet of docs/RULES.md, for two more of the eleven sheets and for a refusal, byte for byte; and of more than 512 records the first 512.
 -- By computing.
 -- Assumes nothing.
 use Prim.Native.Nat.{ℕ, _+_}

@@ -1,4 +1,4 @@
--- The tier of each struct item: document 01, "Order and tiers". It is the length of the longest chain of edges from the item, and 255 where a chain never ends.
+-- The tier of each struct item: docs/RULES.md, "Order and tiers". It is the length of the longest chain of edges from the item, and 255 where a chain never ends.
 -- Assumes nothing: these are definitions.
 use mathlib.Core.Bool.{Bool, true, false}
 use mathlib.Core.List.{List, [], _∷_, map}

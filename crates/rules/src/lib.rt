@@ -6,7 +6,7 @@ pub enum Step {
     Refused { number: u8, position: usize },
 }
 
-// The subject of a diagnostic, by document 01's letters: row; row and argument; item; item and field; item and argument; item's return; item
+// The subject of a diagnostic, by the letters of docs/SHEET.md: row; row and argument; item; item and field; item and argument; item's return; item
 // and derive; item and lifetime.
 pub enum Place {
     R(u16),

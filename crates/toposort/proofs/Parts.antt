@@ -13,6 +13,7 @@ use lib.Seq.{sets}
 use Rattle.rules.specs.Graph.{Graph}
 use Rattle.rules.specs.Walk.{Out, still, join, fieldOut, fieldsOut, visitOut, itemOut, itemsOut}
 use Rattle.laws.proofs.Tests.{both, holds}
+use Rattle.laws.proofs.Stores.{sets-append}
 use Rattle.laws.specs.Left.{fresh}
 use Rattle.laws.proofs.Counts.{fresh-set, fresh-set-le}
 use Rattle.laws.proofs.Chains.{Good}
@@ -22,10 +23,6 @@ use Rattle.toposort.specs.State.{Did, Room}
 
 -- ## One part after another
 
-pub sets-append : (xs ys b : List ℕ) (n : ℕ) → sets (sets b n xs) (n + length xs) ys ≡ sets b n (xs ++ ys)
-sets-append [] ys b n = rw add-zero
-sets-append (x ∷ xs) ys b n = rw (add-suc, ← suc-add) (sets-append xs ys (set b n x) (suc n))
-
 pub did-still : (b : List ℕ) (v : Walk) → Did b v (still (v .marks)) v b
 did-still b v = record { marks = refl; order = refl; len = omega arith; calls = omega arith; errors = none b (v .errors) }
 
@@ -33,7 +30,7 @@ pub did-join : {b b′ b″ : List ℕ} {v r r′ : Walk} {a c : Out} → Did b 
 did-join {v = v} {a = a} {c = c} p q =
     record {
       marks = q .marks;
-      order = q .order ∙ rw (p .order, p .len) (sets-append (a .sorted) (c .sorted) (v .order) (v .len));
+      order = q .order ∙ rw (p .order, p .len) (sets-append (v .order) (v .len) (a .sorted) (c .sorted));
       len = omega (arith, p .len, q .len, length-append (a .sorted) (c .sorted));
       calls = omega (arith, p .calls, q .calls);
       errors = also (p .errors) (q .errors);

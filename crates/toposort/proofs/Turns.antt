@@ -16,11 +16,12 @@ use Rattle.rules.specs.Graph.{Graph}
 use Rattle.rules.specs.Walk.{Out, finished, fieldOut, fieldsOut, visitOut}
 use Rattle.laws.specs.Left.{fresh}
 use Rattle.laws.proofs.Counts.{fresh-set}
+use Rattle.laws.proofs.Stores.{sets-append}
 use Rattle.errors.specs.declared.Errors.{Errors}
 use Rattle.errors.specs.Sink.{Reported, also, none, meant}
 use Rattle.toposort.specs.declared.Walk.{Walk}
 use Rattle.toposort.specs.State.{Did, Done, Visits, Room}
-use Rattle.toposort.proofs.Parts.{sets-append, did-still, did-join, Spends, Bounded, spends-first, room-after, room-less}
+use Rattle.toposort.proofs.Parts.{did-still, did-join, Spends, Bounded, spends-first, room-after, room-less}
 
 -- ## One field
 
@@ -145,7 +146,7 @@ done-finished w i {a} {v} d =
       did =
           record {
             marks = ap (λ (x : List ℕ). set x i 2) (p .marks);
-            order = rw (p .order, p .len) (sets-append (a .sorted) (i ∷ []) (w .order) (w .len));
+            order = rw (p .order, p .len) (sets-append (w .order) (w .len) (a .sorted) (i ∷ []));
             len = omega (arith, p .len, length-append (a .sorted) (i ∷ []));
             calls = omega (arith, p .calls);
             errors = p .errors;

@@ -18,7 +18,7 @@ use Rattle.rules.specs.View.{RustFunction, rows, itemIs, itemName, fieldCount, 
 use Rattle.rules.specs.Types.{Types, typesOf}
 use Rattle.rules.specs.Check.{check-struct-field, check-fn-arg, check-fn-return}
 use Rattle.laws.proofs.Tests.{never}
-use Rattle.laws.proofs.Accepted.Steps.{RowOrNone}
+use Rattle.laws.specs.Kinds.{RowOrNone}
 use Rattle.laws.proofs.Accepted.Items.{FunctionOf}
 use Rattle.typecheck_rows.specs.Tables.{tabled, RowTables}
 use Rattle.typecheck_rows.proofs.UnsizedTable.{sized}

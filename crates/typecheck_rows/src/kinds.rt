@@ -1,4 +1,4 @@
-// The numbers of document 01, by their names.
+// The numbers of docs/SHEET.md, by their names.
 
 // Kinds of rows.
 pub const IDENT: u16 = 0;

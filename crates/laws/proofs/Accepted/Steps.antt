@@ -13,7 +13,7 @@ use Rattle.rules.specs.declared.Step.{Step}
 use Rattle.rules.specs.declared.Step.the-variants.{Next, Refused}
 use Rattle.rules.specs.Format.{check, after, _>>_, end, each, pairAt, offset, one, limited, orNone, times, list, typeHead, repr, variants, receivers, receiver}
 use Rattle.rules.specs.View.{kind, past, entry}
-pub use Rattle.laws.specs.Kinds.{RowOrNone}
+use Rattle.laws.specs.Kinds.{RowOrNone}
 use Rattle.laws.proofs.Tests.{or-is, both-are}
 
 -- a refusal is no place

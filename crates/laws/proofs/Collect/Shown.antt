@@ -13,7 +13,7 @@ use Rattle.rules.specs.View.{Fn, rows, kind, inner, fnReturn, fnArgs, fnArgCoun
 use Rattle.rules.specs.View.{CxxFunction, RustFunction, Impl, items, itemKind, itemIs, isFunction, rest, fields, fieldCount, field, enumRepr, args, argCount}
 use Rattle.rules.specs.View.{arg, returnPlace, return, implRow}
 use Rattle.rules.specs.Collect.{shownBy}
-pub use Rattle.laws.specs.Kinds.{leaf}
+use Rattle.laws.specs.Kinds.{leaf}
 use Rattle.laws.specs.Kinds.{RowOrNone}
 use Rattle.laws.specs.Reach.{In}
 use Rattle.laws.proofs.Tests.{never, both, all-pass}

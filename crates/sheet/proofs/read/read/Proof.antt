@@ -1,4 +1,4 @@
--- `read` is the reader of document 01: one law of `ReadLaws` for each way out.
+-- `read` is the reader of docs/SHEET.md: one law of `ReadLaws` for each way out.
 -- Assumes nothing.
 use Rattle.sheet.proofs.ReadLaws.{read-2, read-3, read-4, read-4′, read-5, read-rows, read-items, read-fine, read-over}
 use borrow.Author.Needs.{needs}

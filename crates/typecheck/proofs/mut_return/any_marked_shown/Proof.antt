@@ -4,7 +4,8 @@ use mathlib.Core.Path.{_≡_, sym, _∙_}
 use mathlib.Core.Bool.{true, false}
 use borrow.Author.Tests.{ne-eqb}
 use Rattle.rules.specs.Base.{anyOf}
-use Rattle.laws.proofs.Collect.Shown.{leaf, shown-leaf, shown-inner}
+use Rattle.laws.specs.Kinds.{leaf}
+use Rattle.laws.proofs.Collect.Shown.{shown-leaf, shown-inner}
 use Rattle.typecheck_rows.specs.Tables.{marked}
 use Rattle.typecheck.proofs.Visitor.{any-one, any-fn}
 use Rattle.typecheck.proofs.mut_return.any_marked_shown.Statement.{statement}
