@@ -35,19 +35,9 @@ fn port(sheet: &[u8], out: &mut [u8]) -> Duration {
     })
 }
 
-/// All records, by as many calls as it takes.
+/// All records, in one call: no report has more than 32,768.
 fn port_all(sheet: &[u8]) -> Duration {
-    let mut out = vec![0; 1312 + 8 * 4096];
-    timed(|scratch| {
-        let mut from = 0;
-        loop {
-            let bytes = tirvouez::check(black_box(sheet), scratch, from, &mut out);
-            from += (bytes - 1312) / 8;
-            if bytes == 1312 || from >= u32::from_le_bytes([out[8], out[9], out[10], out[11]]) as usize {
-                break;
-            }
-        }
-    })
+    port(sheet, &mut vec![0; 1312 + 8 * 32_768])
 }
 
 fn rust(sheet: &[u8]) -> Option<Duration> {
