@@ -26,7 +26,11 @@ same-length : tie.Need-same-length
 same-length c = search needs
 
 returns-2 : tie.Need-returns-2
-returns-2 c = let lay = c .before .before in let called = lay .before .before .before .before .before .before in told blank refl (called .call .ensures .called .answer) (called .call .ensures .called .list) (lay .before .least .ensures .0) (lay .lay .ensures) (search needs)
+returns-2 c =
+    let lay = c .before .before in
+    let least = lay .before in
+    let called = least .before .before .before .before .before .call .ensures .called in
+    told blank refl (called .answer) (called .list) (least .least .ensures .0) (lay .lay .ensures) (search needs)
 
 pub answer-spec : {M : Type 1} → statement M
 answer-spec =

@@ -30,7 +30,13 @@ same-length : tie.Need-same-length
 same-length c = search needs
 
 returns : tie.Need-returns
-returns c = let put = c .before .before in let code = put .before .before in (recorded _ _ (put .put8 .ensures) (code .code .ensures) (code .before .letter .ensures) (code .before .before .before .first .ensures) (code .before .before .second .ensures), search needs)
+returns c =
+    let put = c .before .before in
+    let code = put .before .before in
+    let letter = code .before in
+    let second = letter .before in
+    let first = second .before in
+    (recorded _ _ (put .put8 .ensures) (code .code .ensures) (letter .letter .ensures) (first .first .ensures) (second .second .ensures), search needs)
 
 pub put-record-spec : {M : Type 1} → statement M
 put-record-spec =

@@ -26,7 +26,10 @@ same-length : tie.Need-same-length
 same-length c = search needs
 
 returns-2 : tie.Need-returns-2
-returns-2 c = let made = c .before .before in some-rows (sym (made .before .before .before .before .read-with .ensures) ∙ made .before .before .enum-told2 .given .1) (made .collect .ensures)
+returns-2 c =
+    let made = c .before .before in
+    let told = made .before .before in
+    some-rows (sym (told .before .before .read-with .ensures) ∙ told .enum-told2 .given .1) (made .collect .ensures)
 
 pub rows-spec : {M : Type 1} → statement M
 rows-spec =
