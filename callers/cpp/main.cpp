@@ -1,43 +1,56 @@
-// Prints what the check says of the sheet in a file: verdict, order, and every record, as the program `report` does but without its limit.
+// Prints what the check says of the sheets in files: verdict, order, and every record, as the program `report` does but without its limit.
+// One Checker serves all of them.
 #include "tirvouez.hpp"
 
 #include <cstdio>
-#include <cstring>
+#include <exception>
 #include <fstream>
 #include <iterator>
+#include <vector>
 
-int main(int argc, char** argv) {
-    if (argc != 2) {
-        std::fprintf(stderr, "usage: %s SHEET\n", argv[0]);
-        return 2;
+namespace {
+
+void print(const tirvouez::Record& r) {
+    std::printf("%u %c %u", static_cast<unsigned>(r.message), r.sign(), r.first);
+    if (r.has_second()) std::printf(" %u", r.second);
+    std::printf(" %u\n", r.detail);
+}
+
+void print(tirvouez::Checker& checker, const std::vector<char>& sheet) {
+    const tirvouez::Answer answer = checker.check(sheet);
+    if (!answer.accepted()) {
+        std::printf("refused %u at %u\n", static_cast<unsigned>(answer.refusal()), answer.position());
+        return;
     }
-    std::ifstream file(argv[1], std::ios::binary);
-    if (!file) {
-        std::fprintf(stderr, "cannot read %s\n", argv[1]);
-        return 2;
-    }
-    const std::vector<std::uint8_t> sheet{std::istreambuf_iterator<char>(file), std::istreambuf_iterator<char>()};
-    tirvouez::Answer answer(sheet);
-    if (answer.refusal() != 0) {
-        std::printf("refused %u at %u\n", answer.refusal(), answer.position());
-        return 0;
-    }
-    std::printf("accepted %u\norder", answer.total());
-    const unsigned structs = tirvouez::structs(sheet);
-    for (unsigned place = 0; place < structs; ++place) std::printf(" %u", answer.order(place));
+    std::printf("accepted %zu\norder", answer.total());
+    for (std::size_t place = 0; place < answer.structs(); ++place) std::printf(" %u", answer.order(place));
     std::printf("\ntiers");
-    for (unsigned place = 0; place < structs; ++place) std::printf(" %u", answer.tier(answer.order(place)));
+    for (std::size_t place = 0; place < answer.structs(); ++place) std::printf(" %u", answer.tier(answer.order(place)));
     std::printf("\nimproper");
-    for (unsigned name = 0; name < 256; ++name)
-        if (answer.has(7, static_cast<std::uint8_t>(name))) std::printf(" %u", name);
+    for (std::size_t name = 0; name < TIRVOUEZ_NAMES; ++name)
+        if (answer.has(tirvouez::Set::improper, name)) std::printf(" %zu", name);
     std::printf("\n");
-    for (std::size_t from = 0; from < answer.total(); from += tirvouez::WINDOW) {
-        const tirvouez::Answer page(sheet, from);
-        for (std::size_t k = 0; k < page.records(); ++k) {
-            const tirvouez::Record r = page.record(k);
-            std::printf("%u %c %u", r.message, r.letter, r.first);
-            if (std::strchr("RIO", r.letter) == nullptr) std::printf(" %u", r.second);
-            std::printf(" %u\n", r.detail);
-        }
+    checker.each(sheet, [](const tirvouez::Record& record) { print(record); });
+}
+
+}  // namespace
+
+int main(int argc, char** argv) try {
+    if (argc < 2) {
+        std::fprintf(stderr, "usage: %s SHEET..\n", argv[0]);
+        return 2;
     }
+    tirvouez::Checker checker;
+    for (int k = 1; k < argc; ++k) {
+        std::ifstream file(argv[k], std::ios::binary);
+        if (!file) {
+            std::fprintf(stderr, "cannot read %s\n", argv[k]);
+            return 2;
+        }
+        const std::vector<char> sheet{std::istreambuf_iterator<char>(file), std::istreambuf_iterator<char>()};
+        print(checker, sheet);
+    }
+} catch (const std::exception& fault) {
+    std::fprintf(stderr, "%s\n", fault.what());
+    return 1;
 }

@@ -1,6 +1,9 @@
 //! The stored answers of the original Rust (testdata/answers.bin, see its README): every part of every one.
 
-use tirvouez::{Answer, RECORD, RECORDS, SCRATCH, WINDOW, check};
+use tirvouez::{ANSWER, Answer, Letter, RECORD, SCRATCH, Set, Unreadable, VERSION, all_records, check, room};
+
+/// The most records that are stored of an answer.
+const STORED: usize = 4096;
 
 /// Takes numbers and runs of bytes off the front.
 struct File<'a>(&'a [u8]);
@@ -17,16 +20,23 @@ impl<'a> File<'a> {
     }
 }
 
+/// How many items of an accepted sheet are structs (docs/SHEET.md).
+fn structs(sheet: &[u8]) -> u8 {
+    let pair = |at: usize| usize::from(u16::from_le_bytes([sheet[at], sheet[at + 1]]));
+    (0..pair(2)).filter(|item| pair(pair(4 + 2 * (pair(0) + item))) == 1).count() as u8
+}
+
 /// What the buffer must hold for the stored answer that is next in the file.
-fn expected(file: &mut File) -> Vec<u8> {
-    let mut bytes = vec![file.number(1) as u8, 0, 0, 0];
+fn expected(file: &mut File, sheet: &[u8]) -> Vec<u8> {
+    let mut bytes = vec![file.number(1) as u8, VERSION];
+    bytes.extend((ANSWER as u16).to_le_bytes());
     bytes.extend(file.bytes(4 + 4)); // position, total
     bytes.extend([0; 4]); // how many records, set below
     bytes.extend(file.bytes(256 + 16 + 512)); // sets, sizes, reasons
-    for _ in 0..2 {
-        bytes.extend(file.bytes(255)); // order, tiers
-        bytes.push(0);
-    }
+    bytes.extend(file.bytes(255)); // order
+    bytes.push(if bytes[0] == 0 { structs(sheet) } else { 0 });
+    bytes.extend(file.bytes(255)); // tiers
+    bytes.push(0);
     let collected = file.number(2);
     file.bytes(2 * collected);
     let records = file.number(4);
@@ -43,8 +53,8 @@ fn stored_answers() {
     for number in 0..sheets {
         let length = file.number(4);
         let sheet = file.bytes(length);
-        let expected = expected(&mut file);
-        let mut out = vec![0xA5; RECORDS + RECORD * WINDOW + 1];
+        let expected = expected(&mut file, sheet);
+        let mut out = vec![0xA5; room(STORED) + 1];
         let mut scratch = vec![0x5A; SCRATCH + 1];
         let written = check(sheet, &mut scratch, 0, &mut out);
         assert!(out[..written] == expected, "sheet {number}");
@@ -57,20 +67,62 @@ fn stored_answers() {
     println!("{sheets} stored answers");
 }
 
+/// docs/MESSAGES.md: a struct without fields (27) that derives BitAnd (29), as pairs.
+const SHEET: [u8; 18] = [0, 0, 1, 0, 6, 0, 1, 0, 24, 0, 0, 0, 1, 0, 11, 0, 0, 0];
+
 #[test]
 fn too_little_room() {
     let sheet = [0; 4];
     let mut scratch = [1; SCRATCH];
-    let mut out = [2; RECORDS - 1];
+    let mut out = [2; ANSWER - 1];
     assert_eq!(check(&sheet, &mut scratch, 0, &mut out), 0);
-    assert!(scratch == [1; SCRATCH] && out == [2; RECORDS - 1]);
-    assert!(Answer::new(&out[..0]).is_none());
+    assert!(scratch == [1; SCRATCH] && out == [2; ANSWER - 1]);
+    assert_eq!(Answer::new(&out[..0]).unwrap_err(), Unreadable::Short(0));
+    assert_eq!(Answer::new(&out).unwrap_err(), Unreadable::Short(ANSWER - 1));
+    assert_eq!(all_records(&sheet, &mut scratch, &mut out).unwrap_err(), Unreadable::Short(ANSWER - 1));
     // refusal 1: a scratch that is too short
-    let mut out = [2; RECORDS];
-    assert_eq!(check(&sheet, &mut scratch[1..], 0, &mut out), RECORDS);
+    let mut out = [2; ANSWER];
+    assert_eq!(check(&sheet, &mut scratch[1..], 0, &mut out), ANSWER);
     assert_eq!(Answer::new(&out).unwrap().verdict(), Err((1, 0)));
-    assert_eq!(check(&sheet, &mut scratch, 0, &mut out), RECORDS);
+    assert_eq!(check(&sheet, &mut scratch, 0, &mut out), ANSWER);
     assert_eq!(Answer::new(&out).unwrap().verdict(), Ok(()));
-    assert_eq!(check(&[], &mut [], usize::MAX, &mut out), RECORDS);
+    assert_eq!(check(&[], &mut [], usize::MAX, &mut out), ANSWER);
     assert_eq!(Answer::new(&out).unwrap().verdict(), Err((1, 0)));
+}
+
+#[test]
+fn readers() {
+    let (mut scratch, mut out) = ([0; SCRATCH], [0; room(2)]);
+    let written = check(&SHEET, &mut scratch, 0, &mut out);
+    let answer = Answer::new(&out[..written]).unwrap();
+    assert_eq!((answer.verdict(), answer.total(), answer.structs()), (Ok(()), 2, 1));
+    assert_eq!((answer.order(), answer.tiers()[0], answer.reasons(24)), (&[0][..], 0, 0));
+    assert!(answer.has(Set::Structs, 24) && !answer.has(Set::Improper, 24));
+    assert_eq!((answer.size(Set::Structs), answer.size(Set::Enums)), (1, 0));
+    let found: Vec<_> = answer.records().map(|r| (r.message, Letter::of(r.letter).unwrap(), r.first, r.second)).collect();
+    assert_eq!(found, [(27, Letter::Item, 0, 0), (29, Letter::Derive, 0, 0)]);
+    assert!(Letter::Derive.has_second() && !Letter::Item.has_second() && Letter::of(b'X').is_none());
+    let one_by_one = all_records(&SHEET, &mut scratch, &mut [0; room(1)]).unwrap();
+    assert!(one_by_one.into_iter().eq(answer.records()));
+}
+
+#[test]
+fn other_layouts() {
+    let (mut scratch, mut out) = ([0; SCRATCH], vec![0; room(2)]);
+    let written = check(&SHEET, &mut scratch, 0, &mut out);
+    assert_eq!(Answer::new(&out[..written - RECORD]).unwrap_err(), Unreadable::Cut);
+    out[1] = VERSION + 1;
+    let fault = Answer::new(&out[..written]).unwrap_err();
+    assert_eq!(fault, Unreadable::Version(VERSION + 1));
+    assert_eq!(fault.to_string(), "the answer has layout version 2, and this crate reads version 1");
+    // the same version with a part more: the records begin further on
+    out[1] = VERSION;
+    out.splice(ANSWER..ANSWER, [0xFF; 16]);
+    out[2] += 16;
+    assert_eq!(Answer::new(&out).unwrap().records().map(|r| r.message).collect::<Vec<_>>(), [27, 29]);
+    // within the answer, and past the end
+    out[2] -= 24;
+    assert_eq!(Answer::new(&out).unwrap_err(), Unreadable::Cut);
+    out[3] = 0xFF;
+    assert_eq!(Answer::new(&out).unwrap_err(), Unreadable::Cut);
 }

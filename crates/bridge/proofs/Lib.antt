@@ -2,6 +2,6 @@ pub mod Locals
 pub mod Buffer
 pub mod Again
 pub mod Relend
-pub mod Stores
-pub mod Records
+pub mod Spelled
+pub mod RunWindow
 pub mod Turn

@@ -1,4 +1,3 @@
-pub mod Windows
 pub mod Parts
 pub mod Whole
 pub mod RunLaws

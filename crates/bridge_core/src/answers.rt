@@ -1,10 +1,17 @@
 // Answers, made of their parts.
 ghost use mathlib.Core.Path.{_≡_};
+ghost use Rattle.rules.specs.Numbers.{requiredTrivialSet};
 ghost use Rattle.rules.specs.Answer.{refused as refusedAnswer};
+ghost use Rattle.names.specs.Known.{countsIn};
 ghost use Rattle.bridge_core.specs.Run.{answerWith};
+use names::known;
+use names::known::Names;
 use rules::Answer;
 use rules::NameSet;
 use rules::Verdict;
+use rules::limit;
+use rules::name;
+use rules::set;
 
 pub fn refused(number: u8, position: usize) -> Answer
     ensures { λ r. ⌜ r ≡ refusedAnswer number position ⌝ }
@@ -12,37 +19,51 @@ pub fn refused(number: u8, position: usize) -> Answer
     let none = names::empty();
     Answer {
         verdict: Verdict::Refused { number, position },
-        sets: [none; 8],
-        sizes: [0; 8],
-        reasons: [0; 256],
-        order: [0; 255],
-        tiers: [0; 255],
+        sets: [none; set::COUNT],
+        sizes: [0; set::COUNT],
+        reasons: [0; name::COUNT],
+        structs: 0,
+        order: [0; limit::ITEMS],
+        tiers: [0; limit::ITEMS],
         total: 0,
     }
 }
 
-// The seven sets of the table, and the improper names.
+// How many reasons each name has to be trivial.
+fn reasons(table: &Names) -> [u16; 256]
+    ensures { λ r. ⌜ r ≡ countsIn (now (table .entry)) requiredTrivialSet ⌝ }
+{
+    let mut all = [0u16; 256];
+    let mut n: u16 = 0;
+    while n < 256 {
+        all[n as usize] = known::reasons_for(table, n);
+        n += 1;
+    }
+    all
+}
+
+// The sets and reasons of the table, the improper names, and how many struct items there are, with their order and tiers.
 pub fn accepted(
-    sets: &[u64; 28],
+    table: &Names,
     improper: NameSet,
-    reasons: [u16; 256],
+    structs: u8,
     order: [u8; 255],
     tiers: [u8; 255],
     total: usize,
 ) -> Answer
-    ensures { λ r. ⌜ r ≡ answerWith (now (sets .entry)) (improper .words) reasons order tiers total ⌝ }
+    ensures { λ r. ⌜ r ≡ answerWith (now (table .entry)) (improper .words) structs order tiers total ⌝ }
 {
-    let structs = names::set_at(sets, 0);
-    let enums = names::set_at(sets, 1);
-    let cxx = names::set_at(sets, 2);
-    let rust = names::set_at(sets, 3);
-    let aliases = names::set_at(sets, 4);
-    let untrusted = names::set_at(sets, 5);
-    let trivial = names::set_at(sets, 6);
+    let shared = known::set_of(table, set::STRUCTS);
+    let enums = known::set_of(table, set::ENUMS);
+    let cxx = known::set_of(table, set::CXX);
+    let rust = known::set_of(table, set::RUST);
+    let aliases = known::set_of(table, set::ALIASES);
+    let untrusted = known::set_of(table, set::UNTRUSTED);
+    let trivial = known::set_of(table, set::REQUIRED_TRIVIAL);
     Answer {
         verdict: Verdict::Accepted,
         sets: [
-            structs,
+            shared,
             enums,
             cxx,
             rust,
@@ -52,7 +73,7 @@ pub fn accepted(
             improper,
         ],
         sizes: [
-            names::size(structs),
+            names::size(shared),
             names::size(enums),
             names::size(cxx),
             names::size(rust),
@@ -61,7 +82,8 @@ pub fn accepted(
             names::size(trivial),
             names::size(improper),
         ],
-        reasons,
+        reasons: reasons(table),
+        structs,
         order,
         tiers,
         total,

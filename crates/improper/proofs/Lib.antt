@@ -1,4 +1,2 @@
-pub mod NameLooks
-pub mod RowLooks
 pub mod PassTurns
 pub mod Passes

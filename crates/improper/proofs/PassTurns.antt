@@ -9,31 +9,31 @@ use native.Mathlib.Numerals.{add-one}
 use native.Mathlib.Omega.{arith}
 use borrow.Author.Tests.{le-ltb, ne-eqb}
 use lib.Dec.{eqb}
-use lib.ListN.{length, getD}
-use lib.Seq.{set-getD, getD-set-same}
+use lib.ListN.{getD}
+use Rattle.rules.specs.Numbers.{noItem, nameCount, mostRows}
 use Rattle.rules.specs.Base.{if_then_else_}
 use Rattle.rules.specs.Format.{pairAt}
 use Rattle.rules.specs.Names.{Words, _∋_, add}
-use Rattle.rules.specs.View.{rows, items, rest, entry, fieldCount, field}
-use Rattle.rules.specs.Collect.{none, entersStructs}
-use Rattle.rules.specs.Types.{typesOf, structOf}
+use Rattle.rules.specs.View.{rows, rest, entry, fieldCount, field}
+use Rattle.rules.specs.Types.{Types, typesOf, structOf}
 use Rattle.rules.specs.Improper.{Looks, fine, bad, lookRow, looksFields, looksLook, looksOf, hits, found, isNew, passTo}
 use Rattle.rules.specs.Rule3.{IsStruct}
-use Rattle.laws.proofs.LastItems.{length-last, of-last}
-use Rattle.laws.proofs.Accepted.{fits}
-use Rattle.laws.proofs.Accepted.Items.{item-of}
-use Rattle.improper.specs.Looks.{lookOf}
-use Rattle.improper.specs.Post.{Looked, Passes}
-use Rattle.improper.proofs.NameLooks.{look-name}
+use Rattle.laws.proofs.names.LastItems.{of-last}
+use Rattle.laws.proofs.sheet.Accepted.{field-row}
+use Rattle.laws.proofs.sheet.Accepted.Items.{item-of}
+use Rattle.names.specs.Known.{tabled}
+use Rattle.row_tables.specs.Tables.{lookOf}
+use Rattle.row_tables.proofs.NameLooks.{look-name}
+use Rattle.improper.specs.Post.{Searchable, Passes}
 
 -- ## A field, by its number
 
-pub hits-name : (w : Words) (c : ℕ) → c < 256 → (w ∋ c) ≡ hits w (lookOf c)
+pub hits-name : (w : Words) (c : ℕ) → c < nameCount → (w ∋ c) ≡ hits w (lookOf c)
 hits-name w c h = rw (look-name c h)
 
-pub hits-code : (w : Words) (c : ℕ) → 256 ≤ c → eqb c 256 ≡ hits w (lookOf c)
+pub hits-code : (w : Words) (c : ℕ) → nameCount ≤ c → eqb c nameCount ≡ hits w (lookOf c)
 unfolding lookOf if_then_else_
-hits-code w c h = rw (le-ltb c 256 h, if_then_else_) (go (eqb c 256))
+hits-code w c h = rw (le-ltb c nameCount h, if_then_else_) (go (eqb c nameCount))
   where
     go : (b : Bool) → b ≡ hits w (if b then bad else fine)
     go true = refl
@@ -41,49 +41,48 @@ hits-code w c h = rw (le-ltb c 256 h, if_then_else_) (go (eqb c 256))
 
 -- ## The last struct of a name
 
-module _ (s looks l : List ℕ) (own : Looked s looks l) (n : ℕ) (small : n < 256) where
-  -- the table at the name, as the code reads it
-  struct-is : getD l n 0 ≡ structOf (typesOf s) n
-  unfolding structOf typesOf
-  struct-is =
-      let e = own .last in
-      let inside : n < length l = omega (arith, ap length e, length-last s (entersStructs s) (items s)) in
-      rw (← e) (ap (λ (x : List ℕ). getD x n 0) (sym (set-getD l n none)) ∙ getD-set-same l n (getD l n none) 0 inside)
+-- i is what the table of names has for it
+module _ (s names looks : List ℕ) (given : Searchable s names looks) (n i : ℕ) (e : i ≡ structOf (tabled s names) n) where
+  struct-is : i ≡ structOf (typesOf s) n
+  struct-is = e ∙ ap (λ (t : Types). structOf t n) (given .own)
 
-  pub fields-none : getD l n 0 ≡ 255 → looksFields s (typesOf s) n ≡ 0
+  pub fields-none : i ≡ noItem → looksFields s (typesOf s) n ≡ 0
   unfolding looksFields if_then_else_
-  fields-none e = rw (← struct-is, e)
+  fields-none q = rw (← struct-is, q)
 
-  module _ (ne : getD l n 0 ≢ 255) where
-    is-item : IsStruct s (getD l n 0)
-    is-item = of-last s n (getD l n 0) (sym struct-is) ne .struct
+  module _ (ne : i ≢ noItem) where
+    is-item : IsStruct s i
+    is-item = of-last s n i (sym struct-is) ne .struct
 
-    pub item-below : getD l n 0 < 255
-    item-below = omega (arith, is-item .below, fits s (own .accepted) .few)
-
-    pub fields-are : (at m : ℕ) → at ≡ rest s (getD l n 0) → m ≡ pairAt s at → m ≡ looksFields s (typesOf s) n
+    pub fields-are : (at m : ℕ) → at ≡ rest s i → m ≡ pairAt s at → m ≡ looksFields s (typesOf s) n
     unfolding looksFields fieldCount if_then_else_
-    fields-are at m a q = rw (← struct-is, ne-eqb (getD l n 0) 255 ne, if_then_else_, ← a) q
+    fields-are at m a q = rw (← struct-is, ne-eqb i noItem ne, if_then_else_, ← a) q
 
-    counts : looksFields s (typesOf s) n ≡ fieldCount s (getD l n 0)
+    counts : looksFields s (typesOf s) n ≡ fieldCount s i
     unfolding looksFields if_then_else_
-    counts = rw (← struct-is, ne-eqb (getD l n 0) 255 ne, if_then_else_)
+    counts = rw (← struct-is, ne-eqb i noItem ne, if_then_else_)
 
     pub fields-few : looksFields s (typesOf s) n ≤ 64
-    fields-few = omega (arith, counts, item-of s (own .accepted) (getD l n 0) (is-item .below) .as-struct (is-item .is-struct) .few-fields)
+    fields-few = omega (arith, counts, item-of s (given .accepted) i (is-item .below) .as-struct (is-item .is-struct) .few-fields)
 
     -- field k of it
-    module _ (at row k : ℕ) (a : at ≡ rest s (getD l n 0)) (r : row ≡ entry s at k) (h : k < looksFields s (typesOf s) n) where
-      row-is : row ≡ field s (getD l n 0) k
+    module _ (at row k : ℕ) (a : at ≡ rest s i) (r : row ≡ entry s at k) (h : k < looksFields s (typesOf s) n) where
+      row-is : row ≡ field s i k
       unfolding field
       row-is = rw a at r
 
-      pub row-below : row < rows s
-      row-below = rw row-is (fits s (own .accepted) .fields-below (getD l n 0) k is-item (omega (arith, counts)))
+      row-below : row < rows s
+      row-below = rw row-is (field-row s (given .accepted) i k is-item (omega (arith, counts)))
+
+      pub row-small : row < mostRows
+      row-small = let few = given .rows .few in let below = row-below in omega arith
 
       pub look-is : lookOf (getD looks row 0) ≡ looksLook s (typesOf s) n k
       unfolding looksLook
-      look-is = own .rows .says row row-below ∙ ap (λ x. lookRow s (typesOf s) (rows s) x) (row-is ∙ ap (λ x. field s x k) struct-is)
+      look-is =
+          given .rows .entries row row-below
+          ∙ ap (λ (t : Types). lookRow s t (rows s) row) (given .own)
+          ∙ ap (lookRow s (typesOf s) (rows s)) (row-is ∙ ap (λ x. field s x k) struct-is)
 
 -- ## The fields
 

@@ -11,11 +11,10 @@ use Rattle.rules.specs.Diagnostics.{bit}
 use Rattle.rules.specs.Names.{Words, empty, _∋_}
 use Rattle.rules.specs.Types.{typesOf}
 use Rattle.rules.specs.Improper.{looksOf, passTo, search, improperOf}
-use Rattle.laws.proofs.Tests.{never}
-use Rattle.laws.proofs.Counts.{free-le}
-use Rattle.laws.proofs.ImproperSearch.{left, Passed, passed}
-use Rattle.laws.proofs.Accepted.{fits}
-use Rattle.laws.proofs.Due.{improper-rule}
+use Rattle.laws.proofs.base.Tests.{never}
+use Rattle.laws.proofs.base.Counts.{free-le}
+use Rattle.laws.proofs.names.ImproperSearch.{left, Passed, passed}
+use Rattle.laws.proofs.rule3.Due.{improper-rule}
 use Rattle.improper.specs.Post.{Passes, Searched}
 
 abbrev passOf : (s : List ℕ) → Words → Words × Bool
@@ -68,4 +67,4 @@ module _ (s : List ℕ) (w : Words) (new : Bool) (h : Searching s w new) (yes : 
   searching-less = rw (p .names, p .found, yes) (falls s w (h .size) (passOf s w .1) refl)
 
 pub searched : (s : List ℕ) → Accepted s → (w : Words) → w ≡ improperOf s (typesOf s) → Searched s w
-searched s acc w e = record { words = e; rule = rw e (improper-rule s (fits s acc)) }
+searched s acc w e = record { words = e; rule = rw e (improper-rule s acc) }

@@ -5,7 +5,7 @@ use mathlib.Core.Path.{_≡_}
 use mathlib.Core.Logic.{_⊎_}
 use mathlib.Core.Bool.{Bool, _||_}
 use lib.Dec.{eqb}
-use Rattle.rules.specs.View.{Ident, Ref, Ptr, Str, Array, Void}
+use Rattle.rules.specs.Numbers.{Ident, Ref, Ptr, Str, Array, Void, noRow}
 
 -- Ident, Str and Void show nothing
 abbrev pub leaf : (kind : ℕ) → Bool
@@ -17,4 +17,4 @@ isThrough k = eqb k Ref || eqb k Ptr || eqb k Array
 
 -- 65,535 for none, or a row below the limit
 abbrev pub RowOrNone : (limit v : ℕ) → Type 0
-RowOrNone limit v = (v ≡ 65535) ⊎ (v < limit)
+RowOrNone limit v = (v ≡ noRow) ⊎ (v < limit)

@@ -1,4 +1,4 @@
--- How many are left: what falls as a walk or a search goes on. Laws: proofs/Counts.
+-- How many are left: what falls as a walk or a search goes on. Laws: proofs/base/Counts.
 -- Assumes nothing: these are definitions.
 use Prim.Native.Nat.{ℕ, zero, suc, _+_}
 use mathlib.Core.Bool.{Bool, not}

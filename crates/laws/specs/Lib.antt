@@ -1,9 +1,10 @@
 pub mod Skip
 pub mod Reach
 pub mod Visits
-pub mod LifetimeMut
+pub mod RowSteps
 pub mod Tells
 pub mod Kinds
 pub mod Left
 pub mod TierPass
 pub mod RowTrees
+pub mod RowTable

@@ -1,4 +1,4 @@
--- Collecting as the code does it: a row that is met again is not walked again. Laws: proofs/Collect, where this is shown to be `visit` of rules.
+-- Collecting as the code does it: a row that is met again is not walked again. Laws: proofs/sheet/Collect, where this is shown to be `visit` of rules.
 -- Assumes nothing: these are definitions.
 use Prim.Native.Nat.{ℕ, zero, suc}
 use mathlib.Core.List.{List, [], _∷_, _++_, foldl}

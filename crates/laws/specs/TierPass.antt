@@ -1,5 +1,5 @@
--- The tiers as the code finds them, by one pass over the order: each struct item begins at 255, and gets its tier when its turn comes. Laws: proofs/TierPass,
--- where the pass is shown to give the tiers of rules.
+-- The tiers as the code finds them, by one pass over the order: each struct item begins at 255, and gets its tier when its turn comes. Laws:
+-- proofs/graph/TierPass, where the pass is shown to give the tiers of rules.
 -- Assumes nothing: these are definitions.
 use Prim.Native.Nat.{ℕ, zero, suc, min}
 use mathlib.Core.Bool.{Bool, true, false}

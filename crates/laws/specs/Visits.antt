@@ -3,15 +3,15 @@
 use Prim.Native.Nat.{ℕ, zero, suc, _+_, _*_}
 use mathlib.Core.Bool.{Bool, _&&_}
 use mathlib.Core.List.{List}
+use Rattle.rules.specs.Numbers.{Ident, Struct}
 use Rattle.rules.specs.Diagnostics.{bit}
-use Rattle.rules.specs.Names.{_∋_}
-use Rattle.rules.specs.View.{Ident, is, rowName, Struct, itemIs, fieldCount, field}
-use Rattle.rules.specs.Types.{typesOf}
+use Rattle.rules.specs.View.{is, rowName, itemIs, fieldCount, field}
+use Rattle.rules.specs.Types.{typesOf, isStruct}
 
 module _ (s : List ℕ) where
   -- field j of item i is a plain name, and a struct bears it
   unfoldable pub structNamed : (i j : ℕ) → Bool
-  structNamed i j = is s Ident (field s i j) && typesOf s .structs ∋ rowName s (field s i j)
+  structNamed i j = is s Ident (field s i j) && isStruct (typesOf s) (rowName s (field s i j))
 
   -- how many of the first k fields of item i are
   unfoldable pub namedFields : (i k : ℕ) → ℕ

@@ -6,7 +6,7 @@ use mathlib.Core.List.{List, [], _∷_, _++_, flatMap}
 use native.Mathlib.Omega.{arith}
 use lib.ListN.{length, getD, take, length-append}
 use lib.Seq.{take-length}
-use Rattle.laws.proofs.Flat.{take-more, flat-more}
+use Rattle.laws.proofs.base.Flat.{take-more, flat-more}
 use Rattle.errors.specs.Bytes.{Stored}
 use Rattle.errors.proofs.Stores.{sized}
 use Rattle.errors.proofs.Stores as stores

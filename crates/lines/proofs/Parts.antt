@@ -15,8 +15,8 @@ use Rattle.rules.specs.Base.{if_then_else_, over}
 use Rattle.rules.specs.Names.{Words, _∋_}
 use Rattle.rules.specs.Diagnostics.{letterOf, numbersOf}
 use Rattle.rules.specs.Text.{ascii, spaced, line, tiersAlong, membersTo, placeText, recordLine, printed}
-use Rattle.laws.proofs.Tests.{never}
-use Rattle.laws.proofs.Flat.{flat-one, flat-over}
+use Rattle.laws.proofs.base.Tests.{never}
+use Rattle.laws.proofs.base.Flat.{flat-one, flat-over}
 use Rattle.errors.specs.Places.{hasSecond}
 use Rattle.lines.specs.Put.{Put}
 use Rattle.lines.proofs.Laws.{none, also, meant}
@@ -97,22 +97,13 @@ module _ (p : Place) where
 
 -- ## Counts that are cut
 
-pub cut : (n : ℕ) (l : List Diagnostic) → n ≤ 512 → flatMap recordLine (take n l) ≡ flatMap recordLine (take printed (take n l))
-cut n l h = ap (flatMap recordLine) (sym (take-all 512 (take n l) (omega (arith, length-take n l))))
+pub cut : (n : ℕ) (l : List Diagnostic) → n ≤ printed → flatMap recordLine (take n l) ≡ flatMap recordLine (take printed (take n l))
+cut n l h = ap (flatMap recordLine) (sym (take-all printed (take n l) (omega (arith, length-take n l))))
 
-module _ {A : Type 0} (l : List A) (n m : ℕ) where
-  -- at a list's end
-  pub take-least : length l ≤ m → take (min n m) l ≡ take n l
-  take-least h = go (decLe m n)
-    where
-      go : Dec (m ≤ n) → take (min n m) l ≡ take n l
-      go (yes g) = take-all (min n m) l (omega arith) ∙ sym (take-all n l (omega arith))
-      go (no g) = ap (λ (k : ℕ). take k l) (let e : min n m ≡ n = omega arith in e)
-
-  -- before another cut
-  pub take-twice : take m (take (min n m) l) ≡ take m (take n l)
-  take-twice = go (decLe m n)
-    where
-      go : Dec (m ≤ n) → take m (take (min n m) l) ≡ take m (take n l)
-      go (yes g) = take-take m (min n m) l (omega arith) ∙ sym (take-take m n l g)
-      go (no g) = ap (λ (k : ℕ). take m (take k l)) (let e : min n m ≡ n = omega arith in e)
+-- before another cut
+pub take-twice : {A : Type 0} (l : List A) (n m : ℕ) → take m (take (min n m) l) ≡ take m (take n l)
+take-twice {A} l n m = go (decLe m n)
+  where
+    go : Dec (m ≤ n) → take m (take (min n m) l) ≡ take m (take n l)
+    go (yes g) = take-take m (min n m) l (omega arith) ∙ sym (take-take m n l g)
+    go (no g) = ap (λ (k : ℕ). take m (take k l)) (let e : min n m ≡ n = omega arith in e)

@@ -1,12 +1,13 @@
--- The whole text: of a refusal; of an answer, with counts that are cut where its lists end. Only the first records show in it. And what `write` leaves, in its
--- two cases.
+-- The whole text: of a refusal; of an answer, with a count of records that is cut where the printed ones end. Only the first records show in it. And what
+-- `write` leaves, in its two cases.
 -- Assumes nothing.
 use Prim.Native.Nat.{ℕ, _+_, _≤_, _<_, min}
 use mathlib.Core.Path.{_≡_, refl, sym, ap, _∙_}
-use mathlib.Core.List.{List, [], _∷_, _++_, flatMap}
+use mathlib.Core.List.{List, [], _∷_, _++_, flatMap, append-assoc}
 use native.Mathlib.Omega.{arith}
 use lib.ListN.{length, getD, take, drop}
 use lib.Seq.{sets-eq}
+use Rattle.rules.specs.Numbers.{nameCount}
 use Rattle.rules.specs.declared.Verdict.{Verdict}
 use Rattle.rules.specs.declared.Verdict.the-variants.{Accepted, Refused}
 use Rattle.rules.specs.declared.Answer.{Answer}
@@ -14,43 +15,48 @@ use Rattle.rules.specs.declared.Diagnostic.{Diagnostic}
 use Rattle.rules.specs.Names.{empty}
 use Rattle.rules.specs.Answer.{nameSet}
 use Rattle.rules.specs.Text.{line, tiersAlong, membersTo, recordLine, printed, refusedText, acceptedText, textOf}
-use Rattle.lines.specs.Put.{Put, Wrote, most}
-use Rattle.lines.proofs.Parts.{take-least, take-twice}
+use Rattle.lines.specs.Put.{Put, structsText, Wrote, most}
+use Rattle.lines.proofs.Parts.{take-twice}
 
 module _ (a : Answer) where
   -- by the verdict
-  by : ℕ → List Diagnostic → Verdict → List ℕ
-  by n ds v = elim v as (λ _. List ℕ) [ Accepted ↦ acceptedText a n ds | Refused number position ↦ refusedText number position ]
+  by : List Diagnostic → Verdict → List ℕ
+  by ds v = elim v as (λ _. List ℕ) [ Accepted ↦ acceptedText a ds | Refused number position ↦ refusedText number position ]
 
-  text-by : (n : ℕ) (ds : List Diagnostic) {v : Verdict} → a .verdict ≡ v → by n ds v ≡ textOf a n ds
+  text-by : (ds : List Diagnostic) {v : Verdict} → a .verdict ≡ v → by ds v ≡ textOf a ds
   unfolding textOf by
-  text-by n ds e = ap (by n ds) (sym e)
+  text-by ds e = ap (by ds) (sym e)
 
-  pub text-refused : (n : ℕ) (ds : List Diagnostic) {number position : ℕ} → a .verdict ≡ Refused number position → refusedText number position ≡ textOf a n ds
+  pub text-refused : (ds : List Diagnostic) {number position : ℕ} → a .verdict ≡ Refused number position → refusedText number position ≡ textOf a ds
   unfolding by
-  text-refused n ds e = text-by n ds e
+  text-refused ds e = text-by ds e
 
-  -- of an order and of records, both as they are printed
-  lines : (order : List ℕ) → List Diagnostic → List ℕ
-  lines order ds =
-      line "accepted" (a .total ∷ []) ++ line "order" order ++ line "tiers" (tiersAlong (a .tiers) order)
-      ++ line "improper" (membersTo 256 (getD (a .sets) 7 (nameSet empty) .words)) ++ flatMap recordLine ds
+  -- the lines as the code joins them
+  pub accepted-is : (ds : List Diagnostic) → line "accepted" (a .total ∷ []) ++ structsText a
+      ++ line "improper" (membersTo nameCount (getD (a .sets) 7 (nameSet empty) .words)) ++ flatMap recordLine (take printed ds) ≡ acceptedText a ds
+  unfolding acceptedText structsText
+  accepted-is ds =
+      ap (λ (l : List ℕ). l ++ line "improper" (membersTo nameCount (getD (a .sets) 7 (nameSet empty) .words)) ++ flatMap recordLine (take printed ds))
+      (sym (append-assoc (line "accepted" (a .total ∷ [])) _ _))
 
-  pub text-accepted : (n k : ℕ) (list : List Diagnostic) {m r : ℕ} → a .verdict ≡ Accepted → length (a .order) ≤ 255 → m ≡ min n 255 → r ≡ min k 512
-      → acceptedText a m (take r list) ≡ textOf a n (take k list)
+  -- with records as they are printed
+  lines : List Diagnostic → List ℕ
+  lines ds =
+      line "accepted" (a .total ∷ []) ++ line "order" (take (a .structs) (a .order)) ++ line "tiers" (tiersAlong (a .tiers) (take (a .structs) (a .order)))
+      ++ line "improper" (membersTo nameCount (getD (a .sets) 7 (nameSet empty) .words)) ++ flatMap recordLine ds
+
+  pub text-accepted : (k : ℕ) (list : List Diagnostic) {r : ℕ} → a .verdict ≡ Accepted → r ≡ min k printed
+      → acceptedText a (take r list) ≡ textOf a (take k list)
   unfolding by acceptedText lines
-  text-accepted n k list {m} {r} e h x y =
-      ap (λ (order : List ℕ). lines order (take 512 (take r list))) (ap (λ (j : ℕ). take j (a .order)) x ∙ take-least (a .order) n 255 h)
-      ∙ ap (λ (ds : List Diagnostic). lines (take n (a .order)) ds) (ap (λ (j : ℕ). take 512 (take j list)) y ∙ take-twice list k 512)
-      ∙ text-by n (take k list) e
+  text-accepted k list e y = ap lines (ap (λ (j : ℕ). take printed (take j list)) y ∙ take-twice list k printed) ∙ text-by (take k list) e
 
   -- only the first records show
-  pub text-shown : (n : ℕ) (ds es : List Diagnostic) → take printed ds ≡ take printed es → textOf a n ds ≡ textOf a n es
+  pub text-shown : (ds es : List Diagnostic) → take printed ds ≡ take printed es → textOf a ds ≡ textOf a es
   unfolding textOf by acceptedText lines
-  text-shown n ds es e = go (a .verdict)
+  text-shown ds es e = go (a .verdict)
     where
-      go : (v : Verdict) → by n ds v ≡ by n es v
-      go Accepted = ap (lines (take n (a .order))) e
+      go : (v : Verdict) → by ds v ≡ by es v
+      go Accepted = ap lines e
       go (Refused number position) = refl
 
 -- ## What `write` leaves

@@ -3,10 +3,11 @@ ghost use mathlib.Core.Path.{_≡_};
 ghost use mathlib.Core.List.{[], _∷_};
 ghost use Prim.Native.Nat.{_+_, _*_, _≤_, min};
 ghost use lib.ListN.{length, getD, take};
+ghost use Rattle.rules.specs.Numbers.{nameCount};
 ghost use Rattle.rules.specs.Names.{empty};
 ghost use Rattle.rules.specs.Answer.{nameSet};
-ghost use Rattle.rules.specs.Text.{line, tiersAlong, membersTo, refusedText, acceptedText, textOf};
-ghost use Rattle.lines.specs.Put.{Put, most, Wrote};
+ghost use Rattle.rules.specs.Text.{line, tiersAlong, membersTo, printed, refusedText, acceptedText, textOf};
+ghost use Rattle.lines.specs.Put.{Put, structsText, most, Wrote};
 use lists::put_along;
 use lists::put_list;
 use lists::put_members;
@@ -19,6 +20,7 @@ use rules::Answer;
 use rules::Diagnostic;
 use rules::NameSet;
 use rules::Verdict;
+use rules::size::WINDOW;
 
 mod lists; // words, and numbers one after another
 mod numbers; // bytes and decimal numbers
@@ -26,6 +28,9 @@ mod records; // diagnostics
 
 // No text is longer.
 pub const MOST: usize = 14379;
+
+// So many records are printed at most.
+const PRINTED: usize = 512;
 
 fn put_total(out: &mut [u8], at: usize, total: usize) -> usize
     requires { ⌜ at + 30 ≤ length (now out) ⌝ }
@@ -59,7 +64,7 @@ fn put_tiers(out: &mut [u8], at: usize, order: &[u8], tiers: &[u8], n: usize) ->
 
 fn put_improper(out: &mut [u8], at: usize, set: NameSet) -> usize
     requires { ⌜ at + 1033 ≤ length (now out) ⌝ }
-    ensures { λ r. ⌜ Put (now (out .entry)) at (line "improper" (membersTo 256 (set .words))) r (now (out .exit)) ⌝ }
+    ensures { λ r. ⌜ Put (now (out .entry)) at (line "improper" (membersTo nameCount (set .words))) r (now (out .exit)) ⌝ }
     ensures { λ r. ⌜ r ≤ at + 1033 ⌝ }
 {
     let a = put_word(out, at, b"improper");
@@ -86,26 +91,30 @@ fn improper_of(sets: [NameSet; 8]) -> NameSet
     sets[7]
 }
 
-fn put_accepted(
-    out: &mut [u8],
-    answer: Answer,
-    structs: usize,
-    records: usize,
-    list: [Diagnostic; 4096],
-) -> usize
-    requires { ⌜ (structs ≤ 255) × (records ≤ 512) × (most ≤ length (now out)) ⌝ }
-    ensures { λ r. ⌜ Put (now (out .entry)) 0 (acceptedText answer structs (take records list)) r (now (out .exit)) ⌝ }
-    ensures { λ r. ⌜ r ≤ most ⌝ }
+// The struct items in order, and their tiers.
+fn put_structs(out: &mut [u8], at: usize, answer: Answer) -> usize
+    requires { ⌜ at + 2052 ≤ length (now out) ⌝ }
+    ensures { λ r. ⌜ Put (now (out .entry)) at (structsText answer) r (now (out .exit)) ⌝ }
+    ensures { λ r. ⌜ r ≤ at + 2052 ⌝ }
 {
+    let n = answer.structs as usize;
     let order = answer.order;
     let tiers = answer.tiers;
+    let a = put_order(out, at, &order, n);
+    put_tiers(out, a, &order, &tiers, n)
+}
+
+fn put_accepted(out: &mut [u8], answer: Answer, list: [Diagnostic; WINDOW], records: usize) -> usize
+    requires { ⌜ (records ≤ printed) × (most ≤ length (now out)) ⌝ }
+    ensures { λ r. ⌜ Put (now (out .entry)) 0 (acceptedText answer (take records list)) r (now (out .exit)) ⌝ }
+    ensures { λ r. ⌜ r ≤ most ⌝ }
+{
     let sets = answer.sets;
     let improper = improper_of(sets);
     let a = put_total(out, 0, answer.total);
-    let b = put_order(out, a, &order, structs);
-    let c = put_tiers(out, b, &order, &tiers, structs);
-    let d = put_improper(out, c, improper);
-    put_records(out, d, list, records)
+    let b = put_structs(out, a, answer);
+    let c = put_improper(out, b, improper);
+    put_records(out, c, list, records)
 }
 
 fn least(n: usize, most: usize) -> usize
@@ -115,10 +124,9 @@ fn least(n: usize, most: usize) -> usize
     if n < most { n } else { most }
 }
 
-// The text of an answer, of so many struct items and of the records that the list has. Gives its length; 0, and writes nothing, where the buffer has no room
-// for the longest text.
-pub fn write(out: &mut [u8], answer: Answer, structs: u16, list: [Diagnostic; 4096]) -> usize
-    ensures { λ r. ⌜ Wrote (textOf answer structs (take (answer .total) list)) (now (out .entry)) r (now (out .exit)) ⌝ }
+// The text of an answer and of the records that the list has. Gives its length; 0, and writes nothing, where the buffer has no room for the longest text.
+pub fn write(out: &mut [u8], answer: Answer, list: [Diagnostic; WINDOW]) -> usize
+    ensures { λ r. ⌜ Wrote (textOf answer (take (answer .total) list)) (now (out .entry)) r (now (out .exit)) ⌝ }
 {
     if out.len() < MOST {
         return 0;
@@ -127,9 +135,8 @@ pub fn write(out: &mut [u8], answer: Answer, structs: u16, list: [Diagnostic; 40
     match verdict {
         Verdict::Refused { number, position } => put_refusal(out, number, position),
         Verdict::Accepted => {
-            let n = least(structs as usize, 255);
-            let k = least(answer.total, 512);
-            put_accepted(out, answer, n, k, list)
+            let k = least(answer.total, PRINTED);
+            put_accepted(out, answer, list, k)
         }
     }
 }

@@ -3,6 +3,7 @@ ghost use mathlib.Core.Path.{_≡_};
 ghost use mathlib.Core.List.{[], _∷_, flatMap};
 ghost use Prim.Native.Nat.{_+_, _*_, _≤_};
 ghost use lib.ListN.{length, getD, take};
+ghost use Rattle.rules.specs.Numbers.{nameCount};
 ghost use Rattle.rules.specs.Base.{if_then_else_};
 ghost use Rattle.rules.specs.Text.{spaced, tiersAlong, membersTo};
 ghost use Rattle.lines.specs.Put.{Put};
@@ -79,7 +80,7 @@ pub fn put_if(out: &mut [u8], at: usize, yes: bool, n: u8) -> usize
 // The names that a set has.
 pub fn put_members(out: &mut [u8], at: usize, set: NameSet) -> usize
     requires { ⌜ at + 1024 ≤ length (now out) ⌝ }
-    ensures { λ r. ⌜ Put (now (out .entry)) at (flatMap spaced (membersTo 256 (set .words))) r (now (out .exit)) ⌝ }
+    ensures { λ r. ⌜ Put (now (out .entry)) at (flatMap spaced (membersTo nameCount (set .words))) r (now (out .exit)) ⌝ }
     ensures { λ r. ⌜ r ≤ at + 1024 ⌝ }
 {
     let mut k: u16 = 0;

@@ -2,7 +2,7 @@
 ghost use mathlib.Core.List.{flatMap};
 ghost use Prim.Native.Nat.{_+_, _*_, _≤_};
 ghost use lib.ListN.{length, take};
-ghost use Rattle.rules.specs.Text.{decimal, placeText, recordLine};
+ghost use Rattle.rules.specs.Text.{decimal, placeText, recordLine, printed};
 ghost use Rattle.lines.specs.Put.{Put};
 use crate::lists::put_if;
 use crate::numbers::put_decimal;
@@ -11,6 +11,7 @@ use crate::numbers::put1;
 use errors::places;
 use rules::Diagnostic;
 use rules::Place;
+use rules::size::WINDOW;
 
 fn put_place(out: &mut [u8], at: usize, p: Place) -> usize
     requires { ⌜ at + 12 ≤ length (now out) ⌝ }
@@ -44,8 +45,8 @@ fn put_record(out: &mut [u8], at: usize, d: Diagnostic) -> usize
 }
 
 // The first n records.
-pub fn put_records(out: &mut [u8], at: usize, list: [Diagnostic; 4096], n: usize) -> usize
-    requires { ⌜ (n ≤ 512) × (at + 22 * n ≤ length (now out)) ⌝ }
+pub fn put_records(out: &mut [u8], at: usize, list: [Diagnostic; WINDOW], n: usize) -> usize
+    requires { ⌜ (n ≤ printed) × (at + 22 * n ≤ length (now out)) ⌝ }
     ensures { λ r. ⌜ Put (now (out .entry)) at (flatMap recordLine (take n list)) r (now (out .exit)) ⌝ }
     ensures { λ r. ⌜ r ≤ at + 22 * n ⌝ }
 {

@@ -1,12 +1,13 @@
-// Sets of names: by value, and seven of them in one table that is lent.
+// Sets of names by value, and what is known of the names in one table that is lent.
 ghost use mathlib.Core.Path.{_≡_};
-ghost use Prim.Native.Nat.{_^_, _%_, _<_};
+ghost use Prim.Native.Nat.{_^_, _%_};
 ghost use lib.Bits.{bitOr};
 ghost use lib.Dec.{eqb};
-ghost use lib.ListN.{length};
 ghost use Rattle.rules.specs.Names.{_∋_, add, bitOf, empty as emptyWords, size as sizeOf};
-ghost use Rattle.names.specs.Table.{wordsAt, Entered, Ones};
+ghost use Rattle.names.specs.Ones.{Ones};
 use rules::NameSet;
+
+pub mod known; // what is known of the names
 
 pub fn empty() -> NameSet
     ensures { λ r. ⌜ r .words ≡ emptyWords ⌝ }
@@ -64,43 +65,4 @@ pub fn size(set: NameSet) -> u16
 {
     let w = set.words;
     ones(w[0]) + ones(w[1]) + ones(w[2]) + ones(w[3])
-}
-
-// Whether name n is in set k of the table. From the eighth on all sets are empty.
-pub fn has(sets: &[u64; 28], k: usize, n: u16) -> bool
-    ensures { λ x. ⌜ x ≡ (wordsAt (now (sets .entry)) k ∋ n) ⌝ }
-{
-    if 6 < k {
-        return false;
-    }
-    let q = (n as usize) / 64;
-    if q < 4 {
-        return has_bit(sets[4 * k + q], n);
-    }
-    false
-}
-
-// Adds name n to set k of the table. That the list behind the reference is 28 words long is no fact of its type, so it is asked.
-pub fn enter(sets: &mut [u64; 28], k: usize, n: u16)
-    requires { ⌜ (k < 7) × (length (now sets) ≡ 28) ⌝ }
-    ensures { λ _. ⌜ Entered (now (sets .entry)) k n (now (sets .exit)) ⌝ }
-{
-    let q = (n as usize) / 64;
-    if q < 4 {
-        let at = 4 * k + q;
-        sets[at] = with_bit(sets[at], n);
-    }
-}
-
-// Set k of the table, by value.
-pub fn set_at(sets: &[u64; 28], k: usize) -> NameSet
-    ensures { λ r. ⌜ r .words ≡ wordsAt (now (sets .entry)) k ⌝ }
-{
-    if 6 < k {
-        return empty();
-    }
-    let at = 4 * k;
-    NameSet {
-        words: [sets[at], sets[at + 1], sets[at + 2], sets[at + 3]],
-    }
 }

@@ -4,14 +4,11 @@ use mathlib.Core.Path.{_≡_}
 use Prim.Native.Nat.{ℕ}
 use mathlib.Core.List.{List}
 use lib.ListN.{replicate}
+use Rattle.rules.specs.Numbers.{windowSize}
 use Rattle.rules.specs.declared.Diagnostic.{Diagnostic}
 use Rattle.rules.specs.declared.Answer.{Answer}
 use Rattle.bridge.specs.Call.{Called}
 use Rattle.paged.specs.declared.Page.{Page}
-
--- how many records a page has room for
-abbrev pub capacity : ℕ
-capacity = 4096
 
 pub record Packed (a : Answer) (l : List Diagnostic) (r : Page) : Type 0 where
   pub answer : r .answer ≡ a
@@ -19,4 +16,4 @@ pub record Packed (a : Answer) (l : List Diagnostic) (r : Page) : Type 0 where
 
 -- the call, on a list of the record d
 pub record Paged (s scratch₀ : List ℕ) (d : Diagnostic) (r : Page) (scratch′ : List ℕ) : Type 0 where
-  pub called : Called s scratch₀ (replicate capacity d) (r .answer) scratch′ (r .list)
+  pub called : Called s scratch₀ (replicate windowSize d) (r .answer) scratch′ (r .list)

@@ -1,28 +1,27 @@
 -- The text of a page, an answer with the first records, is the text of the sheet: no list shows in the answer, and what a list of 512 records or more keeps of
 -- the report is all that is printed.
 -- Assumes nothing.
-use Prim.Native.Nat.{ℕ, _+_, _≤_, _<_}
+use Prim.Native.Nat.{ℕ, _+_, _≤_}
 use mathlib.Core.Path.{_≡_, refl, sym, ap, _∙_}
-use mathlib.Core.Bool.{Bool}
 use mathlib.Core.List.{List, []}
 use native.Mathlib.Omega.{arith}
 use native.Mathlib.Decide.{decLe}
-use native.Mathlib.Numerals.{add-one}
 use lib.ListN.{length, take, drop, replicate}
 use lib.Seq.{sets, sets-eq, take-all, take-take, take-append-seam, length-take-le, length-sets}
+use Rattle.rules.specs.Numbers.{scratchSize}
 use Rattle.rules.specs.declared.Step.{Step}
 use Rattle.rules.specs.declared.Step.the-variants.{Next, Refused}
 use Rattle.rules.specs.declared.Answer.{Answer}
 use Rattle.rules.specs.declared.Diagnostic.{Diagnostic}
 use Rattle.rules.specs.Diagnostics.{bit}
-use Rattle.rules.specs.View.{Struct, items, itemIs}
-use Rattle.rules.specs.Rule3.{structsTo}
+use Rattle.rules.specs.View.{items, itemIs}
+use Rattle.rules.specs.Collect.{structsTo}
 use Rattle.rules.specs.Report.{report}
 use Rattle.rules.specs.Answer.{refused, readWith, call}
 use Rattle.rules.specs.Text.{printed, textOf, sheetText}
 use Rattle.bridge_core.specs.Run.{answerBy, recordsBy, answerOf, recordsOf}
 use Rattle.bridge_core.proofs.RunLaws.{total-is, call-answer, call-list}
-use Rattle.laws.proofs.Stores.{sets-cut}
+use Rattle.laws.proofs.base.Stores.{sets-cut}
 use Rattle.lines.proofs.Whole.{text-shown}
 
 -- ## What a list keeps
@@ -54,38 +53,27 @@ pub answer-alone : (s scratch : List ℕ) (l m : List Diagnostic) → call s scr
 answer-alone s scratch l m = sym (call-answer s scratch l) ∙ call-answer s scratch m
 
 -- a refusal shows no records, and an accepted sheet's are the report
-records-shown : (v : Step) (s : List ℕ) (n : ℕ) → textOf (answerBy v s) n (recordsBy v s) ≡ textOf (answerBy v s) n (report s)
+records-shown : (v : Step) (s : List ℕ) → textOf (answerBy v s) (recordsBy v s) ≡ textOf (answerBy v s) (report s)
 unfolding answerBy recordsBy refused textOf
-records-shown (Refused number position) s n = refl
-records-shown (Next e) s n = refl
+records-shown (Refused number position) s = refl
+records-shown (Next e) s = refl
 
-module _ (s scratch : List ℕ) (zs list : List Diagnostic) (a : Answer) (n : ℕ) where
+module _ (s scratch : List ℕ) (zs list : List Diagnostic) (a : Answer) where
   page-is : printed ≤ length zs → a ≡ call s scratch zs .answer → list ≡ call s scratch zs .list
-      → textOf a n (take (a .total) list) ≡ textOf (call s scratch [] .answer) n (report s)
+      → textOf a (take (a .total) list) ≡ textOf (call s scratch [] .answer) (report s)
   page-is h e g =
       let k : ℕ = length scratch in
       let ds : List Diagnostic = recordsOf s k in
       let answer : a ≡ answerOf s k = e ∙ sym (call-answer s scratch zs) in
       let places : list ≡ sets zs 0 ds = g ∙ sym (call-list s scratch zs) in
-      ap (λ (x : Answer). textOf x n (take (x .total) list)) answer
-      ∙ ap (λ (l : List Diagnostic). textOf (answerOf s k) n (take (answerOf s k .total) l)) places
-      ∙ ap (λ (t : ℕ). textOf (answerOf s k) n (take t (sets zs 0 ds))) (total-is s k)
-      ∙ text-shown (answerOf s k) n (take (length ds) (sets zs 0 ds)) ds (kept ds zs h)
-      ∙ records-shown (readWith k s) s n
-      ∙ ap (λ (x : Answer). textOf x n (report s)) (call-answer s scratch [])
+      ap (λ (x : Answer). textOf x (take (x .total) list)) answer
+      ∙ ap (λ (l : List Diagnostic). textOf (answerOf s k) (take (answerOf s k .total) l)) places
+      ∙ ap (λ (t : ℕ). textOf (answerOf s k) (take t (sets zs 0 ds))) (total-is s k)
+      ∙ text-shown (answerOf s k) (take (length ds) (sets zs 0 ds)) ds (kept ds zs h)
+      ∙ records-shown (readWith k s) s
+      ∙ ap (λ (x : Answer). textOf x (report s)) (call-answer s scratch [])
 
-pub text-is : (s : List ℕ) (zs list : List Diagnostic) (a : Answer) (n : ℕ) → printed ≤ length zs → a ≡ call s (replicate 4096 0) zs .answer
-    → list ≡ call s (replicate 4096 0) zs .list → n ≡ structsTo s (items s) → textOf a n (take (a .total) list) ≡ sheetText s
+pub text-is : (s : List ℕ) (zs list : List Diagnostic) (a : Answer) → printed ≤ length zs → a ≡ call s (replicate scratchSize 0) zs .answer
+    → list ≡ call s (replicate scratchSize 0) zs .list → textOf a (take (a .total) list) ≡ sheetText s
 unfolding sheetText
-text-is s zs list a n h e g m =
-    page-is s (replicate 4096 0) zs list a n h e g ∙ ap (λ (k : ℕ). textOf (call s (replicate 4096 0) [] .answer) k (report s)) m
-
--- ## Counting structs
-
-pub count-start : (s : List ℕ) → 0 ≡ structsTo s 0
-unfolding structsTo
-count-start s = refl
-
-pub count-turn : (s : List ℕ) (i : ℕ) {n k : ℕ} {b : Bool} → n ≡ structsTo s i → b ≡ itemIs s Struct i → k ≡ bit b → n + k ≡ structsTo s (i + 1)
-unfolding structsTo
-count-turn s i {n} {k} {b} e g h = rw add-one (ap (λ (m : ℕ). m + k) e ∙ ap (λ (m : ℕ). structsTo s i + m) (h ∙ ap bit g))
+text-is s zs list a h e g = page-is s (replicate scratchSize 0) zs list a h e g

@@ -8,6 +8,7 @@ use native.Mathlib.Omega.{arith}
 use lib.ListN.{length, getD, take, replicate, length-take, length-replicate}
 use lib.Seq.{sets}
 use borrow.Author.Tests.{le-leb}
+use Rattle.rules.specs.Numbers.{scratchSize, windowSize, answerSize}
 use Rattle.rules.specs.declared.Step.{Step}
 use Rattle.rules.specs.declared.Step.the-variants.{Next, Refused}
 use Rattle.rules.specs.declared.Answer.{Answer}
@@ -15,19 +16,19 @@ use Rattle.rules.specs.declared.Diagnostic.{Diagnostic}
 use Rattle.rules.specs.Base.{if_then_else_}
 use Rattle.rules.specs.Format.{pairAt}
 use Rattle.rules.specs.Answer.{readWith, call}
-use Rattle.laws.proofs.Stores.{sets-append, sets-kept}
+use Rattle.laws.proofs.base.Stores.{sets-append, sets-kept}
 use Rattle.rules.specs.Diagnostics.{letterOf, numbersOf}
 use Rattle.errors.specs.declared.Errors.{Errors}
 use Rattle.errors.specs.Bytes.{low8, Stored}
 use Rattle.errors.specs.Records.{recordWith, recordBytes}
 use Rattle.errors.proofs.Stores.{sized, meant}
-use Rattle.types.specs.declared.Collected.{Collected as Code}
+use Rattle.types.specs.declared.Collected.{Collected}
 use Rattle.types.specs.Post.{Collects}
 use Rattle.bridge_core.specs.Run.{answerOf, recordsOf}
 use Rattle.bridge_core.proofs.RunLaws.{total-is, call-answer, call-list}
 use Rattle.layout.specs.Layout.{answerBytes, layoutOf, fitting, headed, Written}
 use Rattle.lines.specs.Put.{Put}
-use Rattle.replay.specs.Port.{Laid, Told, Collected, rowsBy, RowsOf}
+use Rattle.replay.specs.Port.{Laid, Told, roomy, CollectedRows, rowsBy, RowsOf}
 
 -- ## Records behind an answer
 
@@ -39,70 +40,72 @@ recorded {k = k} {a} {y} code d p e f g h =
     let q = meant p (e ∙ numbers) in
     record { stored = sized q (sym (q .long)); reached = omega (arith, q .long) }
 
-pub laid : {a : Answer} {ds : List Diagnostic} {n r q : ℕ} {out out₁ out₂ : List ℕ} → 34080 ≤ length out → n ≤ 4096 → Written a n out r out₁
-    → Put out₁ 1312 (flatMap recordBytes ds) q out₂ → Laid a ds n out out₂
+pub laid : {a : Answer} {ds : List Diagnostic} {n r q : ℕ} {out out₁ out₂ : List ℕ} → roomy ≤ length out → n ≤ windowSize → Written a n out r out₁
+    → Put out₁ answerSize (flatMap recordBytes ds) q out₂ → Laid a ds n out out₂
 unfolding headed fitting if_then_else_
 laid {a} {ds} {n} {out = out} {out₁} h k w p =
     let few : fitting n (length out) ≡ n = omega arith in
-    let long : length (answerBytes a n) ≡ 1312 = subst (λ (m : ℕ). length (answerBytes a m) ≡ 1312) few (w .long (omega arith)) in
-    let behind : 1312 ≡ 0 + length (answerBytes a n) = omega (arith, long) in
-    let front : out₁ ≡ sets out 0 (answerBytes a n) = rw (le-leb 1312 (length out) (omega arith), if_then_else_, few) at (w .bytes) in
+    let long : length (answerBytes a n) ≡ answerSize = subst (λ (m : ℕ). length (answerBytes a m) ≡ answerSize) few (w .long (omega arith)) in
+    let behind : answerSize ≡ 0 + length (answerBytes a n) = omega (arith, long) in
+    let front : out₁ ≡ sets out 0 (answerBytes a n) = rw (le-leb answerSize (length out) (omega arith), if_then_else_, few) at (w .bytes) in
     record {
       bytes =
           p .stored .stored
-          ∙ ap (λ (l : List ℕ). sets l 1312 (flatMap recordBytes ds)) front
+          ∙ ap (λ (l : List ℕ). sets l answerSize (flatMap recordBytes ds)) front
           ∙ ap (λ (m : ℕ). sets (sets out 0 (answerBytes a n)) m (flatMap recordBytes ds)) behind
           ∙ sets-append out 0 (answerBytes a n) (flatMap recordBytes ds);
     }
 
 -- ## The page
 
--- for a scratch of m bytes and a list of m places
-page : (m : ℕ) (s sc out out′ : List ℕ) (a : Answer) (zs list : List Diagnostic) (n : ℕ) → length sc ≡ m → length zs ≡ m → a ≡ call s sc zs .answer
+-- for a scratch of k bytes and a list of m places
+page : (k m : ℕ) (s sc out out′ : List ℕ) (a : Answer) (zs list : List Diagnostic) (n : ℕ) → length sc ≡ k → length zs ≡ m → a ≡ call s sc zs .answer
     → list ≡ call s sc zs .list → n ≡ min (a .total) m → Laid a (take n list) n out out′
-    → out′ ≡ sets out 0 (layoutOf (call s sc [] .answer) (take m (recordsOf s m)))
+    → out′ ≡ sets out 0 (layoutOf (call s sc [] .answer) (take m (recordsOf s k)))
 unfolding layoutOf
-page m s sc out out′ a zs list n is-sc is-zs is-a is-list is-n l =
-    let ds : List Diagnostic = recordsOf s m in
-    let answer : a ≡ answerOf s m = is-a ∙ sym (call-answer s sc zs) ∙ ap (answerOf s) is-sc in
-    let total : a .total ≡ length ds = ap (λ (x : Answer). x .total) answer ∙ total-is s m in
-    let stored : list ≡ sets zs 0 ds = is-list ∙ sym (call-list s sc zs) ∙ ap (λ (k : ℕ). sets zs 0 (recordsOf s k)) is-sc in
+page k m s sc out out′ a zs list n is-sc is-zs is-a is-list is-n l =
+    let ds : List Diagnostic = recordsOf s k in
+    let answer : a ≡ answerOf s k = is-a ∙ sym (call-answer s sc zs) ∙ ap (answerOf s) is-sc in
+    let total : a .total ≡ length ds = ap (λ (x : Answer). x .total) answer ∙ total-is s k in
+    let stored : list ≡ sets zs 0 ds = is-list ∙ sym (call-list s sc zs) ∙ ap (λ (j : ℕ). sets zs 0 (recordsOf s j)) is-sc in
     let many : n ≡ min (length ds) (length zs) = is-n ∙ ap (λ (t : ℕ). min t m) total ∙ ap (min (length ds)) (sym is-zs) in
     let records : take n list ≡ take m ds =
     ap (λ (x : List Diagnostic). take n x) stored
-    ∙ ap (λ (k : ℕ). take k (sets zs 0 ds)) many
+    ∙ ap (λ (j : ℕ). take j (sets zs 0 ds)) many
     ∙ sets-kept zs ds
-    ∙ ap (λ (k : ℕ). take k ds) is-zs in
+    ∙ ap (λ (j : ℕ). take j ds) is-zs in
     let count : n ≡ length (take m ds) = omega (arith, is-n, total, length-take m ds) in
     let same : a ≡ call s sc [] .answer = is-a ∙ sym (call-answer s sc zs) ∙ call-answer s sc [] in
     l .bytes
     ∙ ap (λ (x : List Diagnostic). sets out 0 (answerBytes a n ++ flatMap recordBytes x)) records
-    ∙ ap (λ (k : ℕ). sets out 0 (answerBytes a k ++ flatMap recordBytes (take m ds))) count
+    ∙ ap (λ (j : ℕ). sets out 0 (answerBytes a j ++ flatMap recordBytes (take m ds))) count
     ∙ ap (λ (x : Answer). sets out 0 (answerBytes x (length (take m ds)) ++ flatMap recordBytes (take m ds))) same
 
-pub told : {s sc out out′ : List ℕ} {a : Answer} (blank : Diagnostic) {list : List Diagnostic} {n : ℕ} → sc ≡ replicate 4096 0
-    → a ≡ call s sc (replicate 4096 blank) .answer → list ≡ call s sc (replicate 4096 blank) .list → n ≡ min (a .total) 4096
-    → Laid a (take n list) n out out′ → 34080 ≤ length out → Told s out out′
+pub told : {s sc out out′ : List ℕ} {a : Answer} (blank : Diagnostic) {list : List Diagnostic} {n : ℕ} → sc ≡ replicate scratchSize 0
+    → a ≡ call s sc (replicate windowSize blank) .answer → list ≡ call s sc (replicate windowSize blank) .list → n ≡ min (a .total) windowSize
+    → Laid a (take n list) n out out′ → roomy ≤ length out → Told s out out′
 told {s} {sc} {out} {out′} {a} blank {list} {n} is-sc is-a is-list is-n l h =
+    let zeros : length sc ≡ scratchSize = ap length is-sc ∙ length-replicate {A = ℕ} scratchSize 0 in
+    let blanks : length (replicate windowSize blank) ≡ windowSize = length-replicate windowSize blank in
     record {
       bytes = λ _.
-          page 4096 s sc out out′ a (replicate 4096 blank) list n (ap length is-sc ∙ length-replicate {A = ℕ} 4096 0) (length-replicate 4096 blank) is-a is-list is-n l
-          ∙ ap (λ (x : List ℕ). sets out 0 (layoutOf (call s x [] .answer) (take 4096 (recordsOf s 4096)))) is-sc;
+          page scratchSize windowSize s sc out out′ a (replicate windowSize blank) list n zeros blanks is-a is-list is-n l
+          ∙ ap (λ (x : List ℕ). sets out 0 (layoutOf (call s x [] .answer) (take windowSize (recordsOf s scratchSize)))) is-sc;
       untouched = λ g. absurd (omega arith);
     }
 
-pub nothing : {s out : List ℕ} → length out < 34080 → Told s out out
+pub nothing : {s out : List ℕ} → length out < roomy → Told s out out
 nothing h = record { bytes = λ g. absurd (omega arith); untouched = λ _. refl }
 
 -- ## The collected rows
 
-pub collected : {s sc sc′ out out′ : List ℕ} {cx : Errors} {r : Code} → Collects s sc sc′ out out′ cx r → Collected s (r .types .rows) sc′
-collected c = let e = c .types .rows in record { count = e; row = λ k h. c .rows k (omega arith) }
+pub collected : {s sc sc′ w out out′ : List ℕ} {cx : Errors} {r : Collected} → Collects s sc sc′ w out out′ cx r → CollectedRows s (r .rows) sc′
+collected c = record { count = c .count; row = λ k h. c .rows k (omega (arith, c .count)) }
 
 pub no-rows : {s scratch : List ℕ} {room number position : ℕ} → readWith room s ≡ Refused number position → RowsOf s room 0 scratch
 unfolding rowsBy
 no-rows e = record { count = rw e refl; row = λ k h. absurd (omega arith) }
 
-pub some-rows : {s scratch : List ℕ} {room n e : ℕ} → readWith room s ≡ Next e → Collected s n scratch → RowsOf s room n scratch
+pub some-rows : {s scratch : List ℕ} {room n e : ℕ} → readWith room s ≡ Next e → CollectedRows s n scratch → RowsOf s room n scratch
 unfolding rowsBy
 some-rows e c = record { count = rw e (c .count); row = λ k h. rw e (c .row k h) }

@@ -5,6 +5,7 @@ use mathlib.Core.Path.{_≡_}
 use mathlib.Core.List.{List, [], _++_, flatMap}
 use lib.ListN.{length, getD, take, replicate}
 use lib.Seq.{sets}
+use Rattle.rules.specs.Numbers.{scratchSize, windowSize, answerSize, recordSize}
 use Rattle.rules.specs.declared.Step.{Step}
 use Rattle.rules.specs.declared.Step.the-variants.{Next, Refused}
 use Rattle.rules.specs.declared.Answer.{Answer}
@@ -20,15 +21,19 @@ use Rattle.layout.specs.Layout.{answerBytes, layoutOf}
 pub record Laid (a : Answer) (ds : List Diagnostic) (n : ℕ) (out out′ : List ℕ) : Type 0 where
   pub bytes : out′ ≡ sets out 0 (answerBytes a n ++ flatMap recordBytes ds)
 
--- what the call answers, with the first 4,096 records; nothing where the buffer has no room for so many
+-- the bytes of an answer with as many records as a list has places
+abbrev pub roomy : ℕ
+roomy = answerSize + recordSize * windowSize
+
+-- what the call answers, with the first records; nothing where the buffer has no room for so many
 pub record Told (s out out′ : List ℕ) : Type 0 where
-  pub bytes : 34080 ≤ length out → out′ ≡ sets out 0 (layoutOf (call s (replicate 4096 0) [] .answer) (take 4096 (recordsOf s 4096)))
-  pub untouched : length out < 34080 → out′ ≡ out
+  pub bytes : roomy ≤ length out → out′ ≡ sets out 0 (layoutOf (call s (replicate scratchSize 0) [] .answer) (take windowSize (recordsOf s scratchSize)))
+  pub untouched : length out < roomy → out′ ≡ out
 
 -- ## The collected rows
 
 -- n rows, as pairs, are those that are collected
-pub record Collected (s : List ℕ) (n : ℕ) (scratch : List ℕ) : Type 0 where
+pub record CollectedRows (s : List ℕ) (n : ℕ) (scratch : List ℕ) : Type 0 where
   pub count : n ≡ length (typesOf s .all)
   pub row : (k : ℕ) → k < n → pairAt scratch (2 * k) ≡ getD (typesOf s .all) k 0
 

@@ -8,6 +8,9 @@ mod port; // what the port says of a sheet
 use input::long_at;
 use input::take;
 use libc::STDOUT_FILENO;
+use rules::size::ANSWER;
+use rules::size::SCRATCH;
+use rules::size::WINDOW;
 
 fn say(text: &[u8]) {
     io::write_all(STDOUT_FILENO, text);
@@ -130,13 +133,13 @@ fn collected_rows(buf: &mut [u8], rows: &[u8], count: usize) -> u8 {
     }
 }
 
-// The records, a count of at most 4,096 and that many times eight bytes.
+// The records, a count of at most rules::size::WINDOW and that many times eight bytes.
 fn records(buf: &mut [u8], ours: &[u8]) -> u8 {
     if take(buf, 4) < 4 {
         return ENDED;
     }
     let n = long_at(buf, 0);
-    if 4096 < n {
+    if n > WINDOW as u32 {
         return ENDED;
     }
     let bytes = 8 * n as usize;
@@ -146,7 +149,7 @@ fn records(buf: &mut [u8], ours: &[u8]) -> u8 {
     if n != long_at(ours, 12) {
         return RECORDS;
     }
-    if same(buf, 0, ours, 1312, 8 * n) {
+    if same(buf, 0, ours, ANSWER as u32, 8 * n) {
         NONE
     } else {
         RECORDS
@@ -246,7 +249,7 @@ fn judge(buf: &mut [u8], n: usize) -> Found
     requires { ⌜ Counts n (now buf) ⌝ }
 {
     let mut ours = [0u8; port::ROOM];
-    let mut rows = [0u8; 4096];
+    let mut rows = [0u8; SCRATCH];
     port::answer(&buf[..n], &mut ours);
     let count = port::rows(&buf[..n], &mut rows);
     let part = first_different(buf, &ours, &rows, count);

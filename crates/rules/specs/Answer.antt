@@ -4,6 +4,7 @@ use Prim.Native.Nat.{ℕ, _-_}
 use mathlib.Core.List.{List, [], _∷_, _++_, map}
 use lib.ListN.{length, take, drop, replicate}
 use lib.Dec.{leb}
+use Rattle.rules.specs.Numbers.{nameCount, setCount, mostItems, scratchSize}
 use Rattle.rules.specs.declared.Step.{Step}
 use Rattle.rules.specs.declared.Step.the-variants.{Next, Refused}
 use Rattle.rules.specs.declared.Verdict.{Verdict}
@@ -14,6 +15,7 @@ use Rattle.rules.specs.declared.Diagnostic.{Diagnostic}
 use Rattle.rules.specs.Format.{check, after, read}
 use Rattle.rules.specs.Names.{Words, empty, size}
 use Rattle.rules.specs.View.{items}
+use Rattle.rules.specs.Collect.{structsTo}
 use Rattle.rules.specs.Types.{Types, typesOf}
 use Rattle.rules.specs.Walk.{Out}
 use Rattle.rules.specs.Order.{graphOf, walkOf}
@@ -55,11 +57,12 @@ unfoldable pub refused : (number position : ℕ) → Answer
 refused number position =
     record {
       verdict = verdict.Refused number position;
-      sets = replicate 8 (nameSet empty);
-      sizes = replicate 8 0;
-      reasons = replicate 256 0;
-      order = replicate 255 0;
-      tiers = replicate 255 0;
+      sets = replicate setCount (nameSet empty);
+      sizes = replicate setCount 0;
+      reasons = replicate nameCount 0;
+      structs = 0;
+      order = replicate mostItems 0;
+      tiers = replicate mostItems 0;
       total = 0;
     }
 
@@ -71,7 +74,7 @@ setsOf t improper = t .structs ∷ t .enums ∷ t .cxx ∷ t .rust ∷ t .aliase
 
 -- 255 places: the list, and then zeros
 unfoldable pub places : List ℕ → List ℕ
-places l = take 255 l ++ replicate (255 - length l) 0
+places l = take mostItems l ++ replicate (mostItems - length l) 0
 
 unfoldable pub accepted : List ℕ → Types → Out → (report : List Diagnostic) → Answer
 accepted s t walk report =
@@ -81,6 +84,7 @@ accepted s t walk report =
       sets = map nameSet names;
       sizes = map size names;
       reasons = t .reasons;
+      structs = structsTo s (items s);
       order = places (walk .sorted);
       tiers = places (tiersOf (graphOf s t) (items s));
       total = length report;
@@ -90,15 +94,15 @@ accepted s t walk report =
 
 -- the scratch is asked first
 unfoldable pub readWith : (scratch : ℕ) → List ℕ → Step
-readWith n s = after (check (leb 4096 n) 1 0 0) (λ _. read s)
+readWith n s = after (check (leb scratchSize n) 1 0 0) (λ _. read s)
 
 -- the first diagnostics that fit; the rest of the list is unchanged
 unfoldable pub filled : List Diagnostic → (report : List Diagnostic) → List Diagnostic
 filled list report = take (length list) report ++ drop (length report) list
 
--- the first 4,096 bytes become 0
+-- the first bytes become 0, as many as the call asks
 unfoldable pub cleared : List ℕ → List ℕ
-cleared scratch = replicate 4096 0 ++ drop 4096 scratch
+cleared scratch = replicate scratchSize 0 ++ drop scratchSize scratch
 
 unfoldable pub call : (sheet scratch : List ℕ) → List Diagnostic → Outcome
 call s scratch list =

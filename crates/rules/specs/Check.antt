@@ -6,29 +6,20 @@ use mathlib.Core.List.{List, [], _∷_, _++_}
 use mathlib.Core.Bool.{Bool, true, false, not, _&&_, _||_}
 use lib.ListN.{getD}
 use lib.Dec.{ltb, leb, eqb}
+use Rattle.rules.specs.Numbers.{nameBool, nameChar, nameCxxString, nameRustString, nameSelf, Ident, RustBox, RustVec, UniquePtr, SharedPtr, WeakPtr}
+use Rattle.rules.specs.Numbers.{CxxVector, Ref, Ptr, Str, SliceRef, Array, Fn, Void, RustType, CxxFunction, RustFunction, Default, isBit, ExternType}
+use Rattle.rules.specs.Numbers.{static, noItem}
 use Rattle.rules.specs.declared.Place.the-variants.{R, G, I, F, A, O, D, L}
 use Rattle.rules.specs.declared.Diagnostic.{Diagnostic}
 use Rattle.rules.specs.Base.{if_then_else_, over, anyOf}
 use Rattle.rules.specs.Diagnostics.{say, tell, when, bit}
-use Rattle.rules.specs.Names.{_∋_, isAtom, isReserved, nameBool, nameChar, nameCxxString, nameRustString, nameSelf}
-use Rattle.rules.specs.View.{Ident, RustBox, RustVec, UniquePtr, SharedPtr, WeakPtr, CxxVector, Ref, Ptr, Str, SliceRef, Array, Fn, Void, flag1, flag2, rows, kind, is, rowName, rowFlags, inner, fnArgCount, fnArg, shown, RustType, CxxFunction, RustFunction, itemKind, itemIs, itemName, lifetimeCount, lifetime, deriveCount, derive, fieldCount, field, enumExplicit, enumVariants, enumDefaults, typeBounds, functionUnsafe, functionTrusted, functionUnwind, isMethod, isFree, selfType, receiverMutable, receiverPinned, return, hasReturn, argCount, arg, args, implRow, implNegative}
-use Rattle.rules.specs.Collect.{none}
-use Rattle.rules.specs.Types.{Types}
-
--- the derives with a rule
-abbrev pub Default : ℕ
-Default = 3
-
--- BitAnd, BitOr, BitXor
-abbrev pub isBit : ℕ → Bool
-isBit d = leb 11 d && leb d 13
-
-abbrev pub ExternType : ℕ
-ExternType = 14
-
--- the lifetime `static`
-abbrev pub static : ℕ
-static = 0
+use Rattle.rules.specs.Names.{isAtom, isReserved}
+use Rattle.rules.specs.View.{flag1, flag2, rows, kind, is, rowName, rowFlags, inner, fnArgCount, fnArg, shown, itemKind, itemIs, itemName}
+use Rattle.rules.specs.View.{lifetimeCount, lifetime, deriveCount, derive, fieldCount, field, enumExplicit, enumVariants, enumDefaults, typeBounds}
+use Rattle.rules.specs.View.{functionUnsafe, functionTrusted, functionUnwind, isMethod, isFree, selfType, receiverMutable, receiverPinned, return}
+use Rattle.rules.specs.View.{hasReturn, argCount, arg, args, implRow, implNegative}
+use Rattle.rules.specs.Types.{Types, isStruct, isEnum, isCxx, isRust, isAlias, isUntrusted, isRequiredTrivial, isExtern, isOpaque, untrustedOf, typeOf}
+use Rattle.rules.specs.Types.{reasonsFor}
 
 module _ (s : List ℕ) (t : Types) where
   -- ## From the end of check.rs
@@ -46,8 +37,8 @@ module _ (s : List ℕ) (t : Types) where
   unfoldable pub is-unsized-ident : (n : ℕ) → Bool
   is-unsized-ident n =
       eqb n nameCxxString
-      || (t .cxx ∋ n && not (t .structs ∋ n) && not (t .enums ∋ n) && not (t .aliases ∋ n && t .requiredTrivial ∋ n))
-      || t .rust ∋ n
+      || (isExtern t n && not (isAlias t n && isRequiredTrivial t n))
+      || isRust t n
 
   unfoldable pub is-unsized-within : (fuel r : ℕ) → Bool
   is-unsized-within zero r = false
@@ -64,11 +55,11 @@ module _ (s : List ℕ) (t : Types) where
   -- the branch of `describe`, in text order
   unfoldable pub describe-ident : (n : ℕ) → ℕ
   describe-ident n =
-      if t .structs ∋ n then 1 else
-      if t .enums ∋ n then 2 else
-      if t .aliases ∋ n then 3 else
-      if t .cxx ∋ n then 4 else
-      if t .rust ∋ n then 5 else
+      if isStruct t n then 1 else
+      if isEnum t n then 2 else
+      if isAlias t n then 3 else
+      if isCxx t n then 4 else
+      if isRust t n then 5 else
       if eqb n nameCxxString then 6 else
       if eqb n nameChar then 7 else 8
 
@@ -93,20 +84,20 @@ module _ (s : List ℕ) (t : Types) where
   unfoldable pub check-type-ident : (r : ℕ) → List Diagnostic
   check-type-ident r =
       let n = rowName s r in
-      when (not (isAtom n) && not (t .structs ∋ n) && not (t .enums ∋ n) && not (t .cxx ∋ n) && not (t .rust ∋ n)) (say 3 (R r))
+      when (not (isAtom n) && not (isStruct t n) && not (isEnum t n) && not (isCxx t n) && not (isRust t n)) (say 3 (R r))
 
   unfoldable pub check-type-box : (r : ℕ) → List Diagnostic
   check-type-box r =
       let plain = is s Ident (inner s r) in
       let n = rowName s (inner s r) in
-      when (plain && t .cxx ∋ n && not (t .aliases ∋ n) && not (t .structs ∋ n) && not (t .enums ∋ n)) (say 4 (R r))
+      when (plain && isOpaque t n) (say 4 (R r))
       ++ when (not (plain && not (isAtom n))) (say 5 (R r))
 
   unfoldable pub check-type-rust-vec : (r : ℕ) → List Diagnostic
   check-type-rust-vec r =
       let plain = is s Ident (inner s r) in
       let n = rowName s (inner s r) in
-      if plain && t .cxx ∋ n && not (t .aliases ∋ n) && not (t .structs ∋ n) && not (t .enums ∋ n) then say 6 (R r) else
+      if plain && isOpaque t n then say 6 (R r) else
       if plain && not (eqb n nameCxxString) then [] else
       if is s Str (inner s r) then [] else
       if is s RustBox (inner s r) then check-type-box (inner s r) else say 7 (R r)
@@ -115,39 +106,37 @@ module _ (s : List ℕ) (t : Types) where
   check-type-unique-ptr r =
       let plain = is s Ident (inner s r) in
       let n = rowName s (inner s r) in
-      if plain && t .rust ∋ n then say 8 (R r) else
+      if plain && isRust t n then say 8 (R r) else
       if plain && (not (isAtom n) || eqb n nameCxxString) then [] else
       if is s CxxVector (inner s r) then [] else say 9 (R r)
 
-  unfoldable pub check-type-shared-ptr : (r : ℕ) → List Diagnostic
-  check-type-shared-ptr r =
+  -- shared_ptr and weak_ptr have one rule, with messages of their own: for a Rust type, for a C++ vector, for any other target
+  unfoldable pub check-counted-ptr : (rust vector other : ℕ) → (r : ℕ) → List Diagnostic
+  check-counted-ptr rust vector other r =
       let plain = is s Ident (inner s r) in
       let n = rowName s (inner s r) in
-      if plain && t .rust ∋ n then say 10 (R r) else
+      if plain && isRust t n then say rust (R r) else
       if plain && not (eqb n nameChar || eqb n nameRustString) then [] else
-      if is s CxxVector (inner s r) then say 11 (R r) else say 12 (R r)
+      if is s CxxVector (inner s r) then say vector (R r) else say other (R r)
+
+  unfoldable pub check-type-shared-ptr : (r : ℕ) → List Diagnostic
+  check-type-shared-ptr r = check-counted-ptr 10 11 12 r
 
   unfoldable pub check-type-weak-ptr : (r : ℕ) → List Diagnostic
-  check-type-weak-ptr r =
-      let plain = is s Ident (inner s r) in
-      let n = rowName s (inner s r) in
-      if plain && t .rust ∋ n then say 13 (R r) else
-      if plain && not (eqb n nameChar || eqb n nameRustString) then [] else
-      if is s CxxVector (inner s r) then say 14 (R r) else say 15 (R r)
+  check-type-weak-ptr r = check-counted-ptr 13 14 15 r
 
   unfoldable pub check-type-cxx-vector : (r : ℕ) → List Diagnostic
   check-type-cxx-vector r =
       let plain = is s Ident (inner s r) in
       let n = rowName s (inner s r) in
-      if plain && t .rust ∋ n then say 16 (R r) else
+      if plain && isRust t n then say 16 (R r) else
       if plain && not (eqb n nameChar || eqb n nameBool || eqb n nameRustString) then [] else say 17 (R r)
 
   -- a mutable reference to this row requires a pin
   unfoldable pub requires-pin : (r : ℕ) → Bool
   requires-pin r =
       let n = rowName s r in
-      let opaque = t .cxx ∋ n && not (t .structs ∋ n) && not (t .enums ∋ n) && not (t .aliases ∋ n) in
-      (is s Ident r && (eqb n nameCxxString || opaque)) || is s CxxVector r
+      (is s Ident r && (eqb n nameCxxString || isOpaque t n)) || is s CxxVector r
 
   unfoldable pub check-type-ref : (r : ℕ) → List Diagnostic
   check-type-ref r =
@@ -166,8 +155,8 @@ module _ (s : List ℕ) (t : Types) where
   check-type-slice-ref r =
       let plain = is s Ident (inner s r) in
       let n = rowName s (inner s r) in
-      let supported = not (is-unsized (inner s r)) || (plain && (t .rust ∋ n || t .aliases ∋ n)) in
-      let opaque = plain && t .cxx ∋ n && not (t .structs ∋ n) && not (t .enums ∋ n) in
+      let supported = not (is-unsized (inner s r)) || (plain && (isRust t n || isAlias t n)) in
+      let opaque = plain && isExtern t n in
       when (not supported) (tell 23 (R r) (bit opaque))
 
   unfoldable pub check-type-array : (r : ℕ) → List Diagnostic
@@ -224,7 +213,7 @@ module _ (s : List ℕ) (t : Types) where
       check-reserved-name i
       ++ check-lifetimes i
       ++ when (eqb (fieldCount s i) 0) (say 27 (I i))
-      ++ when (t .cxx ∋ n && t .untrusted ∋ n) (say 28 (I (getD (t .lastUntrusted) n none)))
+      ++ when (isCxx t n && isUntrusted t n) (say 28 (I (untrustedOf t n)))
       ++ over (deriveCount s i) (check-struct-derive i)
       ++ over (fieldCount s i) (check-struct-field i)
 
@@ -251,13 +240,13 @@ module _ (s : List ℕ) (t : Types) where
       ++ check-lifetimes i
       ++ over (deriveCount s i) (check-opaque-derive i)
       ++ when (typeBounds s i) (say 37 (I i))
-      ++ when (t .requiredTrivial ∋ n) (tell 38 (I i) (getD (t .reasons) n 0))
+      ++ when (isRequiredTrivial t n) (tell 38 (I i) (reasonsFor t n))
 
   -- ### `check_mut_return_restriction`
 
   -- what `try_resolve` gives has lifetimes, or it gives nothing
   unfoldable pub may-have-lifetimes : (name : ℕ) → Bool
-  may-have-lifetimes n = let i = getD (t .lastType) n none in eqb i none || ltb 0 (lifetimeCount s i)
+  may-have-lifetimes n = let i = typeOf t n in eqb i noItem || ltb 0 (lifetimeCount s i)
 
   -- `FindLifetimeMut` at one row, and over a row and all that it shows
   unfoldable pub is-lifetime-mut : (r : ℕ) → Bool
@@ -292,15 +281,15 @@ module _ (s : List ℕ) (t : Types) where
       let n = selfType s i in
       let unpinned = receiverMutable s i && not (receiverPinned s i) in
       if eqb n nameSelf then say 41 (I i) else
-      if t .enums ∋ n then say 42 (I i) else
-      if not (t .structs ∋ n) && not (t .cxx ∋ n) && not (t .rust ∋ n) then say 43 (I i) else
-      when (unpinned && t .cxx ∋ n && not (t .structs ∋ n) && not (t .aliases ∋ n)) (say 44 (I i))
+      if isEnum t n then say 42 (I i) else
+      if not (isStruct t n) && not (isCxx t n) && not (isRust t n) then say 43 (I i) else
+      when (unpinned && isOpaque t n) (say 44 (I i))
 
   unfoldable pub check-fn-self-type : (i : ℕ) → List Diagnostic
   check-fn-self-type i =
       let n = selfType s i in
-      if t .enums ∋ n then say 45 (I i) else
-      when (not (t .structs ∋ n) && not (t .cxx ∋ n) && not (t .rust ∋ n)) (say 46 (I i))
+      if isEnum t n then say 45 (I i) else
+      when (not (isStruct t n) && not (isCxx t n) && not (isRust t n)) (say 46 (I i))
 
   unfoldable pub check-fn-arg : (i j : ℕ) → List Diagnostic
   check-fn-arg i j =

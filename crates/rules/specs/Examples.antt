@@ -25,12 +25,24 @@ cases =
     -- 2. the worked sheet
     ∷ record {
       sheet = 1 ∷ 2 ∷ 10 ∷ 14 ∷ 26 ∷ 0 ∷ 25 ∷ 1 ∷ 24 ∷ 0 ∷ 0 ∷ 1 ∷ 0 ∷ 1 ∷ 25 ∷ 0 ∷ 0 ∷ 1 ∷ 0 ∷ [];
-      expected = record { nameSets = (24 ∷ 25 ∷ []) ∷ [] ∷ [] ∷ [] ∷ [] ∷ [] ∷ [] ∷ [] ∷ []; reasons = []; order = (1 ∷ 0 ∷ []); tiers = (255 ∷ 255 ∷ []); report = say 2 (F 1 0) ++ say 2 (F 0 0) };
+      expected = record {
+        nameSets = (24 ∷ 25 ∷ []) ∷ [] ∷ [] ∷ [] ∷ [] ∷ [] ∷ [] ∷ [] ∷ [];
+        reasons = [];
+        order = (1 ∷ 0 ∷ []);
+        tiers = (255 ∷ 255 ∷ []);
+        report = say 2 (F 1 0) ++ say 2 (F 0 0);
+      };
     }
     -- 3. its two structs exchanged
     ∷ record {
       sheet = 1 ∷ 2 ∷ 10 ∷ 14 ∷ 26 ∷ 0 ∷ 25 ∷ 1 ∷ 25 ∷ 0 ∷ 0 ∷ 1 ∷ 0 ∷ 1 ∷ 24 ∷ 0 ∷ 0 ∷ 1 ∷ 0 ∷ [];
-      expected = record { nameSets = (24 ∷ 25 ∷ []) ∷ [] ∷ [] ∷ [] ∷ [] ∷ [] ∷ [] ∷ [] ∷ []; reasons = []; order = (0 ∷ 1 ∷ []); tiers = (255 ∷ 255 ∷ []); report = say 2 (F 0 0) };
+      expected = record {
+        nameSets = (24 ∷ 25 ∷ []) ∷ [] ∷ [] ∷ [] ∷ [] ∷ [] ∷ [] ∷ [] ∷ [];
+        reasons = [];
+        order = (0 ∷ 1 ∷ []);
+        tiers = (255 ∷ 255 ∷ []);
+        report = say 2 (F 0 0);
+      };
     }
     -- 4. a struct that holds an array of itself
     ∷ record {
@@ -40,22 +52,48 @@ cases =
     -- 5. a name twice
     ∷ record {
       sheet = 2 ∷ 2 ∷ 12 ∷ 16 ∷ 20 ∷ 32 ∷ 0 ∷ 24 ∷ 0 ∷ 2 ∷ 1 ∷ 24 ∷ 0 ∷ 0 ∷ 1 ∷ 0 ∷ 1 ∷ 24 ∷ 0 ∷ 0 ∷ 1 ∷ 1 ∷ [];
-      expected = record { nameSets = (24 ∷ []) ∷ [] ∷ [] ∷ [] ∷ [] ∷ [] ∷ [] ∷ [] ∷ []; reasons = []; order = (1 ∷ 0 ∷ []); tiers = (1 ∷ 0 ∷ []); report = say 1 (I 1) };
+      expected = record {
+        nameSets = (24 ∷ []) ∷ [] ∷ [] ∷ [] ∷ [] ∷ [] ∷ [] ∷ [] ∷ [];
+        reasons = [];
+        order = (1 ∷ 0 ∷ []);
+        tiers = (1 ∷ 0 ∷ []);
+        report = say 1 (I 1);
+      };
     }
     -- 6. a struct named U8 with a field named U8
     ∷ record {
       sheet = 1 ∷ 1 ∷ 8 ∷ 12 ∷ 0 ∷ 2 ∷ 1 ∷ 2 ∷ 0 ∷ 0 ∷ 1 ∷ 0 ∷ [];
-      expected = record { nameSets = (2 ∷ []) ∷ [] ∷ [] ∷ [] ∷ [] ∷ [] ∷ [] ∷ [] ∷ []; reasons = []; order = (0 ∷ []); tiers = (255 ∷ []); report = say 2 (F 0 0) ++ say 57 (I 0) };
+      expected = record {
+        nameSets = (2 ∷ []) ∷ [] ∷ [] ∷ [] ∷ [] ∷ [] ∷ [] ∷ [] ∷ [];
+        reasons = [];
+        order = (0 ∷ []);
+        tiers = (255 ∷ []);
+        report = say 2 (F 0 0) ++ say 57 (I 0);
+      };
     }
     -- 7. SharedPtr, UniquePtr and CxxVector of Bool as arguments
     ∷ record {
       sheet = 4 ∷ 1 ∷ 14 ∷ 18 ∷ 22 ∷ 26 ∷ 30 ∷ 0 ∷ 0 ∷ 4 ∷ 0 ∷ 3 ∷ 0 ∷ 6 ∷ 0 ∷ 5 ∷ 30 ∷ 0 ∷ 0 ∷ 0 ∷ 65535 ∷ 3 ∷ 1 ∷ 2 ∷ 3 ∷ [];
-      expected = record { nameSets = [] ∷ [] ∷ [] ∷ [] ∷ [] ∷ [] ∷ [] ∷ [] ∷ []; reasons = []; order = []; tiers = []; report = say 9 (R 2) ++ say 17 (R 3) ++ tell 49 (A 0 2) 17 };
+      expected = record {
+        nameSets = [] ∷ [] ∷ [] ∷ [] ∷ [] ∷ [] ∷ [] ∷ [] ∷ [];
+        reasons = [];
+        order = [];
+        tiers = [];
+        report = say 9 (R 2) ++ say 17 (R 3)
+            ++ tell 49 (A 0 2) 17;
+      };
     }
     -- 8. Default on enums with 0, 1 and 2 defaults
     ∷ record {
-      sheet = 1 ∷ 3 ∷ 12 ∷ 16 ∷ 34 ∷ 52 ∷ 0 ∷ 2 ∷ 2 ∷ 24 ∷ 0 ∷ 1 ∷ 3 ∷ 0 ∷ 0 ∷ 2 ∷ 0 ∷ 2 ∷ 25 ∷ 0 ∷ 1 ∷ 3 ∷ 0 ∷ 0 ∷ 2 ∷ 1 ∷ 2 ∷ 26 ∷ 0 ∷ 1 ∷ 3 ∷ 0 ∷ 0 ∷ 2 ∷ 2 ∷ [];
-      expected = record { nameSets = [] ∷ (24 ∷ 25 ∷ 26 ∷ []) ∷ [] ∷ [] ∷ [] ∷ [] ∷ [] ∷ [] ∷ []; reasons = []; order = []; tiers = []; report = tell 34 (D 0 0) 0 ++ tell 34 (D 2 0) 2 };
+      sheet = 1 ∷ 3 ∷ 12 ∷ 16 ∷ 34 ∷ 52 ∷ 0 ∷ 2 ∷ 2 ∷ 24 ∷ 0 ∷ 1 ∷ 3 ∷ 0 ∷ 0 ∷ 2 ∷ 0 ∷ 2 ∷ 25 ∷ 0 ∷ 1 ∷ 3 ∷ 0 ∷ 0 ∷ 2 ∷ 1 ∷ 2 ∷ 26 ∷ 0 ∷ 1 ∷ 3 ∷ 0 ∷ 0 ∷ 2 ∷ 2
+          ∷ [];
+      expected = record {
+        nameSets = [] ∷ (24 ∷ 25 ∷ 26 ∷ []) ∷ [] ∷ [] ∷ [] ∷ [] ∷ [] ∷ [] ∷ [];
+        reasons = [];
+        order = [];
+        tiers = [];
+        report = tell 34 (D 0 0) 0 ++ tell 34 (D 2 0) 2;
+      };
     }
     -- 9. no variants, without and with an explicit repr
     ∷ record {
@@ -65,12 +103,24 @@ cases =
     -- 10. A holds &B, B holds RustString
     ∷ record {
       sheet = 3 ∷ 2 ∷ 14 ∷ 18 ∷ 24 ∷ 28 ∷ 40 ∷ 0 ∷ 25 ∷ 7 ∷ 0 ∷ 0 ∷ 0 ∷ 15 ∷ 1 ∷ 24 ∷ 0 ∷ 0 ∷ 1 ∷ 1 ∷ 1 ∷ 25 ∷ 0 ∷ 0 ∷ 1 ∷ 2 ∷ [];
-      expected = record { nameSets = (24 ∷ 25 ∷ []) ∷ [] ∷ [] ∷ [] ∷ [] ∷ [] ∷ [] ∷ (24 ∷ 25 ∷ []) ∷ []; reasons = []; order = (0 ∷ 1 ∷ []); tiers = (0 ∷ 0 ∷ []); report = [] };
+      expected = record {
+        nameSets = (24 ∷ 25 ∷ []) ∷ [] ∷ [] ∷ [] ∷ [] ∷ [] ∷ [] ∷ (24 ∷ 25 ∷ []) ∷ [];
+        reasons = [];
+        order = (0 ∷ 1 ∷ []);
+        tiers = (0 ∷ 0 ∷ []);
+        report = [];
+      };
     }
     -- 11. alias then struct, and struct then alias
     ∷ record {
       sheet = 1 ∷ 4 ∷ 14 ∷ 18 ∷ 26 ∷ 38 ∷ 50 ∷ 0 ∷ 2 ∷ 7 ∷ 24 ∷ 0 ∷ 0 ∷ 1 ∷ 24 ∷ 0 ∷ 0 ∷ 1 ∷ 0 ∷ 1 ∷ 25 ∷ 0 ∷ 0 ∷ 1 ∷ 0 ∷ 7 ∷ 25 ∷ 0 ∷ 0 ∷ [];
-      expected = record { nameSets = (24 ∷ 25 ∷ []) ∷ [] ∷ (24 ∷ 25 ∷ []) ∷ [] ∷ (24 ∷ 25 ∷ []) ∷ [] ∷ [] ∷ [] ∷ []; reasons = []; order = (1 ∷ 2 ∷ []); tiers = []; report = say 1 (I 3) };
+      expected = record {
+        nameSets = (24 ∷ 25 ∷ []) ∷ [] ∷ (24 ∷ 25 ∷ []) ∷ [] ∷ (24 ∷ 25 ∷ []) ∷ [] ∷ [] ∷ [] ∷ [];
+        reasons = [];
+        order = (1 ∷ 2 ∷ []);
+        tiers = [];
+        report = say 1 (I 3);
+      };
     }
     -- one sheet more, for a slip that the eleven do not show: WeakPtr of Bool as an argument is let stand
     ∷ record {
@@ -111,6 +161,7 @@ refusals = (refl, refl, refl, refl, refl, refl, refl, refl)
 worked : List ℕ
 worked = bytes (1 ∷ 2 ∷ 10 ∷ 14 ∷ 26 ∷ 0 ∷ 25 ∷ 1 ∷ 24 ∷ 0 ∷ 0 ∷ 1 ∷ 0 ∷ 1 ∷ 25 ∷ 0 ∷ 0 ∷ 1 ∷ 0 ∷ [])
 
-short : (computed worked scratch (blanks 1) .list ≡ say 2 (F 1 0)) × (computed worked scratch (blanks 1) .answer .total ≡ 2) × (computed worked scratch [] .list ≡ [])
+short : (computed worked scratch (blanks 1) .list ≡ say 2 (F 1 0)) × (computed worked scratch (blanks 1) .answer .total ≡ 2)
+    × (computed worked scratch [] .list ≡ [])
 unfolding computed worked
 short = (refl, refl, refl)

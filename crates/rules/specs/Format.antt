@@ -7,6 +7,8 @@ use mathlib.Core.List.{List, [], _∷_}
 use mathlib.Core.Bool.{Bool, true, false, _&&_, _||_}
 use lib.ListN.{length, getD}
 use lib.Dec.{ltb, leb, eqb}
+use Rattle.rules.specs.Numbers.{Ident, noRow, rowKindCount, itemKindCount, nameCount, deriveKindCount, lifetimeNameCount, mostBytes, mostRows}
+use Rattle.rules.specs.Numbers.{mostItems, mostFields, mostArgs, mostDerives, mostLifetimes, mostVariants}
 use Rattle.rules.specs.declared.Step.{Step}
 use Rattle.rules.specs.declared.Step.the-variants.{Next, Refused}
 
@@ -64,7 +66,7 @@ module _ (s : List ℕ) where
   rowBelow n = limited 7 n
 
   unfoldable pub orNone : ℕ → ℕ → Step
-  orNone n = one 7 (λ v. eqb v 65535 || ltb v n)
+  orNone n = one 7 (λ v. eqb v noRow || ltb v n)
 
   unfoldable pub times : (ℕ → Step) → ℕ → ℕ → Step
   times p zero at = Next at
@@ -76,21 +78,21 @@ module _ (s : List ℕ) where
     times (limited w n) count
 
   abbrev pub name : ℕ → Step
-  name = below 256
+  name = below nameCount
 
   abbrev pub lifetimes : ℕ → Step
-  lifetimes = list 8 6 256
+  lifetimes = list mostLifetimes 6 lifetimeNameCount
 
   abbrev pub derives : ℕ → Step
-  derives = list 16 6 15
+  derives = list mostDerives 6 deriveKindCount
 
   -- ## Type rows. After the kind, by kinds, in row r
 
-  unfoldable pub flagged : (flags r : ℕ) → ℕ → Step
-  flagged n r = below n >> rowBelow r
+  unfoldable pub withFlags : (flags r : ℕ) → ℕ → Step
+  withFlags n r = below n >> rowBelow r
 
   unfoldable pub signature : ℕ → ℕ → Step
-  signature r = below 4 >> orNone r >> list 16 7 r
+  signature r = below 4 >> orNone r >> list mostArgs 7 r
 
   unfoldable pub rowKinds : ℕ → List (ℕ → Step)
   rowKinds r =
@@ -101,11 +103,11 @@ module _ (s : List ℕ) where
       ∷ rowBelow r
       ∷ rowBelow r
       ∷ rowBelow r
-      ∷ flagged 4 r
-      ∷ flagged 2 r
+      ∷ withFlags 4 r
+      ∷ withFlags 2 r
       ∷ end
-      ∷ flagged 2 r
-      ∷ flagged 65536 r
+      ∷ withFlags 2 r
+      ∷ withFlags 65536 r
       ∷ signature r
       ∷ end
       ∷ []
@@ -115,7 +117,7 @@ module _ (s : List ℕ) where
 
   unfoldable pub row : ℕ → ℕ → Step
   row r = do
-    k ← below 14
+    k ← below rowKindCount
     bodyOf r k
 
   -- n bytes from a are those from b
@@ -149,12 +151,12 @@ module _ (s : List ℕ) where
 
   -- a row below T of kind 0
   unfoldable pub repr : (T : ℕ) → ℕ → Step
-  repr T = one 7 (λ v. ltb v T && eqb (pairAt (offset v)) 0)
+  repr T = one 7 (λ v. ltb v T && eqb (pairAt (offset v)) Ident)
 
   -- how many variants, and how many of them are marked default
   unfoldable pub variants : ℕ → Step
   variants = do
-    n ← below 256
+    n ← below (mostVariants + 1)
     below (n + 1)
 
   -- free, associated, method
@@ -167,12 +169,12 @@ module _ (s : List ℕ) where
     getD receivers k end
 
   unfoldable pub function : (flags T : ℕ) → ℕ → Step
-  function flags T = name >> below flags >> lifetimes >> receiver >> orNone T >> list 16 7 T
+  function flags T = name >> below flags >> lifetimes >> receiver >> orNone T >> list mostArgs 7 T
 
   unfoldable pub itemKinds : (T : ℕ) → List (ℕ → Step)
   itemKinds T =
       end
-      ∷ (typeHead >> list 64 7 T)
+      ∷ (typeHead >> list mostFields 7 T)
       ∷ (typeHead >> repr T >> below 2 >> variants)
       ∷ (typeHead >> below 4)
       ∷ (typeHead >> below 4)
@@ -187,7 +189,7 @@ module _ (s : List ℕ) where
 
   unfoldable pub item : (T : ℕ) → ℕ → Step
   item T = do
-    k ← below 9
+    k ← below itemKindCount
     itemOf T k
 
   -- item i with its offset
@@ -201,10 +203,10 @@ read s =
     let T = pairAt s 0 in
     let A = pairAt s 2 in
     let contents = 4 + 2 * (T + A) in
-    (check (leb (length s) 32768) 2 0
+    (check (leb (length s) mostBytes) 2 0
     >> check (leb 4 (length s)) 3 0
-    >> check (leb T 1024) 4 0
-    >> check (leb A 255) 4 2
+    >> check (leb T mostRows) 4 0
+    >> check (leb A mostItems) 4 2
     >> check (leb contents (length s)) 5 0
     >> each (rowAt s) T 0
     >> each (itemAt s T) A 0

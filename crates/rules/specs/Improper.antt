@@ -4,11 +4,11 @@ use mathlib.Core.Bool.{Bool, true, false, not, _&&_, _||_}
 use mathlib.Core.List.{List}
 use Prim.Native.Nat.{ℕ, zero, suc}
 use lib.Dec.{eqb}
+use Rattle.rules.specs.Numbers.{nameRustString, Ident, RustBox, RustVec, Ref, Ptr, Str, SliceRef, Array, Fn, Void, noItem, nameCount}
 use Rattle.rules.specs.Base.{if_then_else_}
-use Rattle.rules.specs.Names.{Words, empty, add, _∋_, isAtom, nameRustString}
-use Rattle.rules.specs.View.{Ident, RustBox, RustVec, Ref, Ptr, Str, SliceRef, Array, Fn, Void, rows, kind, rowName, inner, fieldCount, field}
-use Rattle.rules.specs.Collect.{none}
-use Rattle.rules.specs.Types.{Types, structOf}
+use Rattle.rules.specs.Names.{Words, empty, add, _∋_, isAtom}
+use Rattle.rules.specs.View.{rows, kind, rowName, inner, fieldCount, field}
+use Rattle.rules.specs.Types.{Types, isStruct, isRust, isAlias, structOf}
 
 -- what a field is, looked through: proper, improper, or a name whose last struct decides
 pub data Look : Type 0 where
@@ -31,7 +31,7 @@ module _ (s : List ℕ) (t : Types) where
   unfoldable pub lookName : ℕ → Look
   lookName n =
       if isAtom n then definite (eqb n nameRustString) else
-      if t .structs ∋ n then to n else definite (t .rust ∋ n || t .aliases ∋ n)
+      if isStruct t n then to n else definite (isRust t n || isAlias t n)
 
   -- Ref, Ptr and Array are looked through. Rows refer to smaller rows: above the row, the fuel is of no account
   unfoldable pub lookRow : (fuel r : ℕ) → Look
@@ -47,7 +47,7 @@ module _ (s : List ℕ) (t : Types) where
       ]
 
   unfoldable pub looksFields : ℕ → ℕ
-  looksFields n = let i = structOf t n in if eqb i none then 0 else fieldCount s i
+  looksFields n = let i = structOf t n in if eqb i noItem then 0 else fieldCount s i
 
   unfoldable pub looksLook : ℕ → ℕ → Look
   looksLook n k = lookRow (rows s) (field s (structOf t n) k)
@@ -81,7 +81,7 @@ module _ (g : Looks) where
   -- at most f passes
   unfoldable pub search : (f : ℕ) → Words → Words
   search zero w = w
-  search (suc f) w = let r = passTo 256 w in elim (r .1) [ true ↦ search f (r .0) | false ↦ r .0 ]
+  search (suc f) w = let r = passTo nameCount w in elim (r .1) [ true ↦ search f (r .0) | false ↦ r .0 ]
 
 -- the improper names of a sheet: each pass but the last finds one of 256, so 257 are enough
 unfoldable pub improperOf : List ℕ → Types → Words

@@ -7,31 +7,15 @@ use lib.Bits.{bitOr}
 use lib.Count.{onesIn}
 use lib.ListN.{getD, set}
 use lib.Dec.{ltb, eqb}
-
--- ## The names with a meaning
-
-abbrev pub nameBool : ℕ
-nameBool = 0
-
-abbrev pub nameChar : ℕ
-nameChar = 1
-
-abbrev pub nameCxxString : ℕ
-nameCxxString = 14
-
-abbrev pub nameRustString : ℕ
-nameRustString = 15
-
-abbrev pub nameSelf : ℕ
-nameSelf = 23
+use Rattle.rules.specs.Numbers.{atomCount, reservedCount}
 
 -- Bool to RustString
 unfoldable pub isAtom : ℕ → Bool
-isAtom n = ltb n 16
+isAtom n = ltb n atomCount
 
 -- the atoms, and Box, UniquePtr, SharedPtr, WeakPtr, Vec, CxxVector, str
 unfoldable pub isReserved : ℕ → Bool
-isReserved n = ltb n 23
+isReserved n = ltb n reservedCount
 
 -- ## Sets
 

@@ -4,20 +4,24 @@ use Prim.Native.Nat.{ℕ}
 use mathlib.Core.List.{List}
 use mathlib.Core.Bool.{_&&_}
 use lib.Dec.{ltb}
+use Rattle.rules.specs.Numbers.{Ident, Struct, noItem, mostItems}
 use Rattle.rules.specs.Base.{if_then_else_}
-use Rattle.rules.specs.View.{Ident, is, rowName, Struct, items, itemIs, fieldCount, field}
-use Rattle.rules.specs.Collect.{none}
+use Rattle.rules.specs.View.{is, rowName, items, itemIs, fieldCount, field}
 use Rattle.rules.specs.Types.{Types, structOf}
 use Rattle.rules.specs.Graph.{Graph}
 use Rattle.rules.specs.Walk.{Out, sortOut}
 
--- a plain-named field leads to its name's last struct, atoms included
-unfoldable pub leadsTo : List ℕ → Types → (i k : ℕ) → ℕ
-leadsTo s t i k = let r = field s i k in if is s Ident r then structOf t (rowName s r) else none
+-- the struct items of a sheet, with fields that lead where their rows lead: to an item, or nowhere
+abbrev pub graphBy : List ℕ → (lead : (row : ℕ) → ℕ) → Graph
+graphBy s lead = record { struct = λ i. ltb i (items s) && itemIs s Struct i; fields = fieldCount s; to = λ i k. lead (field s i k) }
+
+-- a plain-named row leads to its name's last struct, atoms included
+unfoldable pub plainLead : List ℕ → Types → (row : ℕ) → ℕ
+plainLead s t r = if is s Ident r then structOf t (rowName s r) else noItem
 
 abbrev pub graphOf : List ℕ → Types → Graph
-graphOf s t = record { struct = λ i. ltb i (items s) && itemIs s Struct i; fields = fieldCount s; to = leadsTo s t }
+graphOf s t = graphBy s (plainLead s t)
 
 -- `.sorted` of it is the order, `.errors` the messages 2
 unfoldable pub walkOf : List ℕ → Types → Out
-walkOf s t = sortOut (graphOf s t) 255
+walkOf s t = sortOut (graphOf s t) mostItems

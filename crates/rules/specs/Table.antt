@@ -3,6 +3,7 @@
 use Prim.Native.Nat.{ℕ, _+_, _-_, _/_, _%_, _^_}
 use mathlib.Core.List.{List, [], _∷_, _++_, map, foldl}
 use lib.ListN.{length, getD, set, replicate}
+use Rattle.rules.specs.Numbers.{nameCount, mostItems, scratchSize}
 use Rattle.rules.specs.declared.Place.the-variants.{I}
 use Rattle.rules.specs.declared.Diagnostic.{Diagnostic}
 use Rattle.rules.specs.Names.{Words, empty}
@@ -30,15 +31,16 @@ abbrev pub spread : List ℕ → List (ℕ × ℕ) → List ℕ
 spread t [] = t
 spread t (p ∷ ps) = spread (set t (p .0) (p .1)) ps
 
-unfoldable pub answerOf : Expected → Answer
-answerOf e =
+unfoldable pub expectedAnswer : Expected → Answer
+expectedAnswer e =
     record {
       verdict = Accepted;
       sets = map (λ names. nameSet (wordsOf names)) (e .nameSets);
       sizes = map length (e .nameSets);
-      reasons = spread (replicate 256 0) (e .reasons);
-      order = padded 255 (e .order);
-      tiers = padded 255 (e .tiers);
+      reasons = spread (replicate nameCount 0) (e .reasons);
+      structs = length (e .order);
+      order = padded mostItems (e .order);
+      tiers = padded mostItems (e .tiers);
       total = length (e .report);
     }
 
@@ -50,9 +52,9 @@ abbrev pub blanks : ℕ → List Diagnostic
 blanks n = replicate n blank
 
 abbrev pub scratch : List ℕ
-scratch = replicate 4098 7
+scratch = replicate (scratchSize + 2) 7
 
 -- an outcome over n blanks
 unfoldable pub outcomeOf : (n : ℕ) → Expected → Outcome
-unfolding answerOf
-outcomeOf n e = record { answer = answerOf e; list = e .report ++ blanks (n - length (e .report)); scratch = replicate 4096 0 ++ 7 ∷ 7 ∷ [] }
+unfolding expectedAnswer
+outcomeOf n e = record { answer = expectedAnswer e; list = e .report ++ blanks (n - length (e .report)); scratch = replicate scratchSize 0 ++ 7 ∷ 7 ∷ [] }

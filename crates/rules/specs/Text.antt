@@ -7,17 +7,16 @@ use mathlib.Core.Bool.{true, false}
 use mathlib.Core.List.{List, [], _∷_, _++_, map, flatMap}
 use lib.ListN.{getD, take, replicate}
 use lib.Dec.{ltb}
+use Rattle.rules.specs.Numbers.{nameCount, improperSet, scratchSize}
 use Rattle.rules.specs.declared.Verdict.the-variants.{Accepted, Refused}
 use Rattle.rules.specs.declared.Answer.{Answer}
 use Rattle.rules.specs.declared.Place.{Place}
 use Rattle.rules.specs.declared.Diagnostic.{Diagnostic}
 use Rattle.rules.specs.Base.{if_then_else_, over}
 use Rattle.rules.specs.Names.{Words, empty, _∋_}
-use Rattle.rules.specs.View.{items}
 use Rattle.rules.specs.Diagnostics.{letterOf, numbersOf}
 use Rattle.rules.specs.Report.{report}
 use Rattle.rules.specs.Answer.{nameSet, call}
-use Rattle.rules.specs.Rule3.{structsTo}
 
 -- the bytes of a text
 abbrev pub ascii : String → List ℕ
@@ -73,19 +72,19 @@ unfoldable pub refusedText : (number position : ℕ) → List ℕ
 refusedText number position = ascii "refused" ++ spaced number ++ ascii " at" ++ spaced position ++ ascii "\n"
 
 -- total; items in order; their tiers; improper names; records
-unfoldable pub acceptedText : Answer → (structs : ℕ) → List Diagnostic → List ℕ
-acceptedText a structs records =
+unfoldable pub acceptedText : Answer → List Diagnostic → List ℕ
+acceptedText a records =
     line "accepted" (a .total ∷ [])
-    ++ line "order" (take structs (a .order))
-    ++ line "tiers" (tiersAlong (a .tiers) (take structs (a .order)))
-    ++ line "improper" (membersTo 256 (getD (a .sets) 7 (nameSet empty) .words))
+    ++ line "order" (take (a .structs) (a .order))
+    ++ line "tiers" (tiersAlong (a .tiers) (take (a .structs) (a .order)))
+    ++ line "improper" (membersTo nameCount (getD (a .sets) improperSet (nameSet empty) .words))
     ++ flatMap recordLine (take printed records)
 
--- of an answer, the number of struct items, and the records of the report
-unfoldable pub textOf : Answer → (structs : ℕ) → List Diagnostic → List ℕ
-textOf a structs records =
-    elim (a .verdict) [ Accepted ↦ acceptedText a structs records | Refused number position ↦ refusedText number position ]
+-- of an answer, and the records of the report
+unfoldable pub textOf : Answer → List Diagnostic → List ℕ
+textOf a records =
+    elim (a .verdict) [ Accepted ↦ acceptedText a records | Refused number position ↦ refusedText number position ]
 
 -- of a list of bytes: what the call answers on a scratch that is long enough, and the full report. Which list the call gets does not show in its answer
 unfoldable pub sheetText : List ℕ → List ℕ
-sheetText s = textOf (call s (replicate 4096 0) [] .answer) (structsTo s (items s)) (report s)
+sheetText s = textOf (call s (replicate scratchSize 0) [] .answer) (report s)

@@ -1,4 +1,5 @@
--- What is printed for the worked sheet of docs/RULES.md, for two more of the eleven sheets and for a refusal, byte for byte; and of more than 512 records the first 512.
+-- What is printed for the worked sheet of docs/RULES.md, for two more of the eleven sheets and for a refusal, byte for byte; and of more than 512 records the
+-- first 512.
 -- By computing.
 -- Assumes nothing.
 use Prim.Native.Nat.{ℕ, _+_}
@@ -6,15 +7,14 @@ use mathlib.Core.Path.{_≡_, refl}
 use mathlib.Core.List.{List, [], _∷_, _++_, flatMap}
 use lib.ListN.{length, replicate}
 use Rattle.rules.specs.declared.Place.the-variants.{F, G}
-use Rattle.rules.specs.Rule3.{structsTo}
-use Rattle.rules.specs.Table.{Expected, answerOf}
+use Rattle.rules.specs.Table.{Expected, expectedAnswer}
 use Rattle.rules.specs.Computed.{bytes, computed}
 use Rattle.rules.specs.Text.{ascii, digitsBy, decimal, spaced, line, tiersAlong, membersTo, placeText, recordLine}
 use Rattle.rules.specs.Text.{refusedText, acceptedText, textOf, sheetText}
 
 -- `sheetText`, with every definition open; of pairs
 unfoldable pub textOfPairs : List ℕ → List ℕ
-unfolding computed structsTo flatMap digitsBy decimal spaced line tiersAlong membersTo placeText recordLine refusedText acceptedText textOf sheetText
+unfolding computed flatMap digitsBy decimal spaced line tiersAlong membersTo placeText recordLine refusedText acceptedText textOf sheetText
 textOfPairs pairs = sheetText (bytes pairs)
 
 -- the worked sheet: `improper` stands alone, without a blank
@@ -49,11 +49,10 @@ wide = refl
 
 -- so many records, a line of ten bytes each, after an answer without structs
 after : (records : ℕ) → List ℕ
-unfolding answerOf
+unfolding expectedAnswer
 after n =
     textOf
-    (answerOf (record { nameSets = replicate 8 []; reasons = []; order = []; tiers = []; report = [] }))
-    0
+    (expectedAnswer (record { nameSets = replicate 8 []; reasons = []; order = []; tiers = []; report = [] }))
     (replicate n (record { message = 2; place = F 1 0; detail = 0 }))
 
 -- 513 print as many as 512

@@ -6,6 +6,7 @@ use mathlib.Core.Bool.{Bool, true, false, _&&_}
 use mathlib.Core.List.{List, [], _∷_, _++_}
 use lib.ListN.{getD, set, replicate}
 use lib.Dec.{eqb}
+use Rattle.rules.specs.Numbers.{noItem}
 use Rattle.rules.specs.declared.Place.the-variants.{F}
 use Rattle.rules.specs.declared.Diagnostic.{Diagnostic}
 use Rattle.rules.specs.Diagnostics.{say}
@@ -31,8 +32,8 @@ abbrev pub blame : Bool → (i k : ℕ) → List Diagnostic
 blame true i k = []
 blame false i k = say 2 (F i k)
 
-abbrev pub flagged : (i k : ℕ) → Out → Out
-flagged i k a = record { ok = a .ok; marks = a .marks; sorted = a .sorted; errors = a .errors ++ blame (a .ok) i k; calls = a .calls }
+abbrev pub blamed : (i k : ℕ) → Out → Out
+blamed i k a = record { ok = a .ok; marks = a .marks; sorted = a .sorted; errors = a .errors ++ blame (a .ok) i k; calls = a .calls }
 
 -- a struct that was met before: it succeeds where its visit is over
 abbrev pub seen : Bool → List ℕ → Out
@@ -44,7 +45,7 @@ finished i a = record { ok = a .ok; marks = set (a .marks) i 2; sorted = a .sort
 
 -- field k of item i, by the visit v
 unfoldable pub fieldOut : (List ℕ → ℕ → Out) → Graph → (i k : ℕ) → List ℕ → Out
-fieldOut v G i k m = elim (eqb (G .to i k) 255) [ true ↦ still m | false ↦ flagged i k (v m (G .to i k)) ]
+fieldOut v G i k m = elim (eqb (G .to i k) noItem) [ true ↦ still m | false ↦ blamed i k (v m (G .to i k)) ]
 
 -- the first k fields of item i
 unfoldable pub fieldsOut : (List ℕ → ℕ → Out) → Graph → (i k : ℕ) → List ℕ → Out

@@ -1,4 +1,11 @@
-// The types that a bridge sheet's answer is made of. What each value means is said in specs/; no function stands here.
+// The types that a bridge sheet's answer is made of, and the numbers that have a name. What each value means is said in specs/; no function stands here.
+pub mod derive; // derives and lifetimes with a rule
+pub mod item; // kinds of items
+pub mod limit; // limits of a sheet
+pub mod name; // names with a meaning
+pub mod row; // kinds of rows
+pub mod set; // sets of names
+pub mod size; // sizes of what is lent and written
 
 // What a step of the reader comes to: the place after what it read, or a refusal with its number and position.
 pub enum Step {
@@ -43,6 +50,8 @@ pub struct Answer {
     pub sizes: [u16; 8],
     // how many reasons each name has to be trivial
     pub reasons: [u16; 256],
+    // how many struct items there are
+    pub structs: u8,
     // struct items in order, then zeros
     pub order: [u8; 255],
     // by item number; 0 for items that are no structs

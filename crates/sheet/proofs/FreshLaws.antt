@@ -16,7 +16,7 @@ use borrow.Author.Tests.{eqb-true, eq-eqb, ne-eqb}
 use Rattle.rules.specs.declared.Step.{Step}
 use Rattle.rules.specs.declared.Step.the-variants.{Next, Refused}
 use Rattle.rules.specs.Format.{check, after, pairAt, offset, sameBytes, equalRows, fresh, rowAt, row}
-use Rattle.sheet.specs.Keys.{mix, key, rowKey, Held, Kept, Sought, placed}
+use Rattle.sheet.specs.Keys.{mix, key, rowKey, KeyHeld, Kept, Sought, placed}
 
 module _ (s : List ℕ) (at : ℕ) where
   pub byte-none : length s ≤ at → 0 ≡ getD s at 0
@@ -133,7 +133,7 @@ module _ (s : List ℕ) (whole i k : ℕ) where
 
 -- one row more is kept
 module _ (s : List ℕ) (r : ℕ) where
-  held-more : (keys : List ℕ) (seed : ℕ) {k : ℕ} → Held s seed keys r → rowKey s seed r ≡ k → r < length keys → Held s seed (set keys r k) (r + 1)
+  held-more : (keys : List ℕ) (seed : ℕ) {k : ℕ} → KeyHeld s seed keys r → rowKey s seed r ≡ k → r < length keys → KeyHeld s seed (set keys r k) (r + 1)
   held-more keys seed {k} h e lk i l = by (ℕ-discrete i r)
     where
       by : Dec (i ≡ r) → getD (set keys r k) i 0 ≡ rowKey s seed i

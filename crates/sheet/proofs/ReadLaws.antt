@@ -6,6 +6,7 @@ use mathlib.Core.List.{List}
 use lib.ListN.{length}
 use lib.Dec.{eqb}
 use borrow.Author.Tests.{le-leb, lt-leb, eq-eqb, ne-eqb}
+use Rattle.rules.specs.Numbers.{scratchSize}
 use Rattle.rules.specs.declared.Step.{Step}
 use Rattle.rules.specs.declared.Step.the-variants.{Next, Refused}
 use Rattle.rules.specs.Format.{check, after, pairAt, rowAt, itemAt, each, read}
@@ -59,10 +60,10 @@ module _ (s : List ℕ) where
               read-over {q} z l = go (λ at. check (eqb at (length s)) 5 at at) refl z (rw (ne-eqb q (length s) l)) ∙ sym items-on
 
 module _ (n : ℕ) (s : List ℕ) where
-  pub scratch-short : n < 4096 → Refused 1 0 ≡ readWith n s
+  pub scratch-short : n < scratchSize → Refused 1 0 ≡ readWith n s
   unfolding readWith
   scratch-short h = simp (lt-leb _ _ h)
 
-  pub scratch-fine : {x : Step} → 4096 ≤ n → x ≡ read s → x ≡ readWith n s
+  pub scratch-fine : {x : Step} → scratchSize ≤ n → x ≡ read s → x ≡ readWith n s
   unfolding readWith
   scratch-fine h e = simp (le-leb _ _ h) e

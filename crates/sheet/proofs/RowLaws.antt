@@ -7,7 +7,7 @@ use mathlib.Core.Logic.{_⊎_, inl, inr}
 use native.Mathlib.Omega.{arith}
 use Rattle.rules.specs.declared.Step.{Step}
 use Rattle.rules.specs.declared.Step.the-variants.{Next}
-use Rattle.rules.specs.Format.{limited, flagged, rowKinds, bodyOf}
+use Rattle.rules.specs.Format.{limited, withFlags, rowKinds, bodyOf}
 
 module _ (s : List ℕ) (r at : ℕ) where
   pub body-wrap : (k : ℕ) {x : Step} → (k ≡ 0 → ⊥) → k < 7 → x ≡ limited s 7 r at → x ≡ bodyOf s r k at
@@ -21,7 +21,7 @@ module _ (s : List ℕ) (r at : ℕ) where
   body-wrap (suc (suc (suc (suc (suc (suc zero)))))) h l e = e
   body-wrap (suc (suc (suc (suc (suc (suc (suc k))))))) h l e = absurd (omega arith)
 
-  pub body-flags : {k : ℕ} {x : Step} → (k ≡ 8) ⊎ (k ≡ 10) → x ≡ flagged s 2 r at → x ≡ bodyOf s r k at
+  pub body-flags : {k : ℕ} {x : Step} → (k ≡ 8) ⊎ (k ≡ 10) → x ≡ withFlags s 2 r at → x ≡ bodyOf s r k at
   unfolding bodyOf rowKinds
   body-flags (inl h) e = rw h e
   body-flags (inr h) e = rw h e

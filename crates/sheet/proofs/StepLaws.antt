@@ -11,6 +11,7 @@ use native.Mathlib.Numerals.{sub-one}
 use lib.ListN.{length}
 use lib.Dec.{leb}
 use borrow.Author.Tests.{lt-ltb, le-ltb, le-leb, lt-leb, leb-true, ne-eqb}
+use Rattle.rules.specs.Numbers.{noRow}
 use Rattle.rules.specs.declared.Step.{Step}
 use Rattle.rules.specs.declared.Step.the-variants.{Next, Refused}
 use Rattle.rules.specs.Format.{after, pairAt, one, limited, orNone, times, each}
@@ -68,13 +69,13 @@ module _ (s : List ℕ) (P : ℕ → Step) (whole : Step) (here : ℕ) where
   times-end (suc k) h l = absurd (omega arith)
 
 module _ (s : List ℕ) (n at : ℕ) {v : ℕ} {x : Step} where
-  pub or-none-none : v ≡ pairAt s at → v ≡ 65535 → x ≡ limited s 7 65536 at → x ≡ orNone s n at
+  pub or-none-none : v ≡ pairAt s at → v ≡ noRow → x ≡ limited s 7 65536 at → x ≡ orNone s n at
   unfolding orNone limited one
   or-none-none e h f = f ∙ simp (sym e ∙ h)
 
-  pub or-none-row : v ≡ pairAt s at → (v ≡ 65535 → ⊥) → x ≡ limited s 7 n at → x ≡ orNone s n at
+  pub or-none-row : v ≡ pairAt s at → (v ≡ noRow → ⊥) → x ≡ limited s 7 n at → x ≡ orNone s n at
   unfolding orNone limited one
-  or-none-row e h f = f ∙ simp (ne-eqb (pairAt s at) 65535 (λ q. h (e ∙ q)))
+  or-none-row e h f = f ∙ simp (ne-eqb (pairAt s at) noRow (λ q. h (e ∙ q)))
 
 -- bodies one after the other; whole is what is left where the loop began
 module _ (P : ℕ → ℕ → Step) (whole : Step) (n i here : ℕ) (h : whole ≡ each P (n - i) i here) where

@@ -33,13 +33,13 @@ module _ (s : List ℕ) where
   rowKey seed i = key (offset s (i + 1) - offset s i) (offset s i) seed
 
   -- the keys of the first r rows
-  abbrev pub Held : (seed : ℕ) (keys : List ℕ) (r : ℕ) → Type 0
-  Held seed keys r = (i : ℕ) → i < r → getD keys i 0 ≡ rowKey seed i
+  abbrev pub KeyHeld : (seed : ℕ) (keys : List ℕ) (r : ℕ) → Type 0
+  KeyHeld seed keys r = (i : ℕ) → i < r → getD keys i 0 ≡ rowKey seed i
 
   -- what is kept of the first r rows: their keys from two seeds, and a mark for the low bits of each first key
   pub record Kept (keys more seen : List ℕ) (r : ℕ) : Type 0 where
-    pub held : Held 0 keys r
-    pub held2 : Held 11400714819323198485 more r
+    pub held : KeyHeld 0 keys r
+    pub held2 : KeyHeld 11400714819323198485 more r
     pub marked : (i : ℕ) → i < r → getD seen (rowKey 0 i % 16384) 0 ≡ 1
 
   -- row r, which ends at next, has the keys k and m, and the rows before it those kept
@@ -47,8 +47,8 @@ module _ (s : List ℕ) where
     pub few : r ≤ 1024
     pub own : k ≡ key (next - offset s r) (offset s r) 0
     pub own2 : m ≡ key (next - offset s r) (offset s r) 11400714819323198485
-    pub others : Held 0 keys r
-    pub others2 : Held 11400714819323198485 more r
+    pub others : KeyHeld 0 keys r
+    pub others2 : KeyHeld 11400714819323198485 more r
 
   -- row r with its offset
   unfoldable pub placed : (r at : ℕ) → Step

@@ -6,6 +6,7 @@ ghost use Rattle.rules.specs.Format.{sameBytes, equalRows, fresh};
 ghost use Rattle.sheet.specs.Keys.{mix, key, Kept, Sought, TwoKeys};
 use crate::offset;
 use crate::pair_at;
+use rules::limit;
 
 // The byte at a place, and 0 past the end.
 fn byte_at(s: &[u8], at: usize) -> u8
@@ -91,7 +92,7 @@ pub fn keys_of(s: &[u8], a: usize, end: usize) -> Keys
 
 // How many of the first r keys are k. There is no way out of the loop before its end, so that it is compiled to instructions that compare
 // several at once.
-fn hits(keys: &[u64; 1024], r: usize, k: u64) -> usize
+fn hits(keys: &[u64; limit::ROWS], r: usize, k: u64) -> usize
     requires { ⌜ r ≤ 1024 ⌝ }
     ensures { λ x. ⌜ (x ≡ 0 → (i : ℕ) → i < r → getD (now (keys .entry)) i 0 ≡ k → ⊥) ⌝ }
 {
@@ -107,8 +108,8 @@ fn hits(keys: &[u64; 1024], r: usize, k: u64) -> usize
 // Whether no row before row r, which has the keys k and m and ends at next, equals it: rows of those keys are compared.
 fn fresh_among(
     s: &[u8],
-    keys: &[u64; 1024],
-    more: &[u64; 1024],
+    keys: &[u64; limit::ROWS],
+    more: &[u64; limit::ROWS],
     r: u16,
     k: u64,
     m: u64,
@@ -134,18 +135,18 @@ fn fresh_among(
 // The same, with a look first at whether any row before row r had a key like k, and then at whether any had k.
 pub fn fresh(
     s: &[u8],
-    keys: &[u64; 1024],
-    more: &[u64; 1024],
+    keys: &[u64; limit::ROWS],
+    more: &[u64; limit::ROWS],
     seen: &[u8; 16384],
     r: u16,
-    k: u64,
-    m: u64,
+    two: Keys,
     next: usize,
 ) -> bool
-    requires { ⌜ Sought (now s) (now keys) (now more) r k m next ⌝ }
+    requires { ⌜ Sought (now s) (now keys) (now more) r (two .first) (two .second) next ⌝ }
     requires { ⌜ Kept (now s) (now keys) (now more) (now seen) r ⌝ }
     ensures { λ x. ⌜ x ≡ fresh (now (s .entry)) r r next ⌝ }
 {
+    let k = two.first;
     let old = seen[k as usize % 16384];
     if old == 0 {
         return true;
@@ -153,5 +154,5 @@ pub fn fresh(
     if hits(keys, r as usize, k) == 0 {
         return true;
     }
-    fresh_among(s, keys, more, r, k, m, next)
+    fresh_among(s, keys, more, r, k, two.second, next)
 }

@@ -1,5 +1,6 @@
 // The items that are functions.
 ghost use mathlib.Core.Path.{_≡_};
+ghost use Prim.Native.Nat.{_+_};
 ghost use Rattle.rules.specs.View.{
   functionUnsafe,
   functionTrusted,
@@ -14,14 +15,13 @@ ghost use Rattle.rules.specs.View.{
   returnPlace,
   return,
   hasReturn,
-  argCount,
-  arg,
 };
 use crate::items::flag1;
 use crate::items::flag2;
 use crate::items::flag4;
 use crate::items::item_place;
 use crate::pair_at;
+use rules::row;
 
 pub fn function_unsafe(s: &[u8], i: u16) -> bool
     ensures { λ x. ⌜ x ≡ functionUnsafe (now (s .entry)) i ⌝ }
@@ -87,15 +87,23 @@ pub fn receiver_pinned(s: &[u8], i: u16) -> bool
     flag2(pair_at(s, receiver_place(s, i) as usize + 4))
 }
 
-pub fn return_place(s: &[u8], i: u16) -> u32
-    ensures { λ x. ⌜ x ≡ returnPlace (now (s .entry)) i ⌝ }
+// Where the list of a function's argument rows stands.
+pub fn args_place(s: &[u8], i: u16) -> u32
+    ensures { λ x. ⌜ x ≡ returnPlace (now (s .entry)) i + 2 ⌝ }
 {
     let at = item_place(s, i) as u32 + 6;
     let receiver = at + 2 + 2 * (pair_at(s, at as usize) as u32);
-    receiver + 2 + 2 * (pair_at(s, receiver as usize) as u32)
+    receiver + 2 + 2 * (pair_at(s, receiver as usize) as u32) + 2
 }
 
-// The return row, or 65,535, and whether there is one.
+// Where the return row stands, before that list.
+pub fn return_place(s: &[u8], i: u16) -> u32
+    ensures { λ x. ⌜ x ≡ returnPlace (now (s .entry)) i ⌝ }
+{
+    args_place(s, i) - 2
+}
+
+// The return row, or none, and whether there is one.
 pub fn return_row(s: &[u8], i: u16) -> u16
     ensures { λ x. ⌜ x ≡ return (now (s .entry)) i ⌝ }
 {
@@ -105,17 +113,5 @@ pub fn return_row(s: &[u8], i: u16) -> u16
 pub fn has_return(s: &[u8], i: u16) -> bool
     ensures { λ x. ⌜ x ≡ hasReturn (now (s .entry)) i ⌝ }
 {
-    return_row(s, i) != 65535
-}
-
-pub fn arg_count(s: &[u8], i: u16) -> u16
-    ensures { λ x. ⌜ x ≡ argCount (now (s .entry)) i ⌝ }
-{
-    pair_at(s, return_place(s, i) as usize + 2)
-}
-
-pub fn arg(s: &[u8], i: u16, j: u16) -> u16
-    ensures { λ x. ⌜ x ≡ arg (now (s .entry)) i j ⌝ }
-{
-    pair_at(s, return_place(s, i) as usize + 2 + 2 + 2 * (j as usize))
+    return_row(s, i) != row::NONE
 }

@@ -3,19 +3,27 @@ ghost use mathlib.Core.Path.{_≡_};
 ghost use Rattle.rules.specs.Format.{after, typeHead, repr, variants, receiver, function, itemOf, itemAt, each};
 use crate::offset;
 use crate::pair_at;
+use crate::steps::DERIVE_KINDS;
+use crate::steps::ITEM_KINDS;
+use crate::steps::LIFETIME_NAMES;
+use crate::steps::NAMES;
+use crate::steps::VARIANT_COUNTS;
 use crate::steps::limited;
 use crate::steps::then_limited;
 use crate::steps::then_list;
 use crate::steps::then_or_none;
 use rules::Step;
+use rules::item;
+use rules::limit;
+use rules::row;
 
 // The name, the lifetimes and the derives that most items begin with.
 fn type_head(s: &[u8], at: usize) -> Step
     ensures { λ x. ⌜ x ≡ typeHead (now (s .entry)) at ⌝ }
 {
-    let name = limited(s, 6, 256, at);
-    let lifetimes = then_list(s, name, 8, 6, 256);
-    then_list(s, lifetimes, 16, 6, 15)
+    let name = limited(s, 6, NAMES, at);
+    let lifetimes = then_list(s, name, limit::LIFETIMES, 6, LIFETIME_NAMES);
+    then_list(s, lifetimes, limit::DERIVES, 6, DERIVE_KINDS)
 }
 
 // A row below t of kind 0.
@@ -25,7 +33,7 @@ fn repr(s: &[u8], t: u16, at: usize) -> Step
     let step = limited(s, 7, t as u32, at);
     let v = pair_at(s, at);
     let place = offset(s, v as u32);
-    if pair_at(s, place as usize) == 0 {
+    if pair_at(s, place as usize) == row::IDENT {
         step
     } else {
         match step {
@@ -51,7 +59,7 @@ fn then_repr(s: &[u8], from: Step, t: u16) -> Step
 fn variants(s: &[u8], at: usize) -> Step
     ensures { λ x. ⌜ x ≡ variants (now (s .entry)) at ⌝ }
 {
-    let count = limited(s, 6, 256, at);
+    let count = limited(s, 6, VARIANT_COUNTS, at);
     then_limited(s, count, 6, pair_at(s, at) as u32 + 1)
 }
 
@@ -70,8 +78,8 @@ fn receiver(s: &[u8], at: usize) -> Step
 {
     let first = limited(s, 6, 3, at);
     match pair_at(s, at) {
-        1 => then_limited(s, first, 6, 256),
-        2 => then_limited(s, then_limited(s, first, 6, 256), 6, 4),
+        1 => then_limited(s, first, 6, NAMES),
+        2 => then_limited(s, then_limited(s, first, 6, NAMES), 6, 4),
         _ => first,
     }
 }
@@ -88,12 +96,12 @@ fn then_receiver(s: &[u8], from: Step) -> Step
 fn function(s: &[u8], flags: u32, t: u16, at: usize) -> Step
     ensures { λ x. ⌜ x ≡ function (now (s .entry)) flags t at ⌝ }
 {
-    let name = limited(s, 6, 256, at);
+    let name = limited(s, 6, NAMES, at);
     let flag = then_limited(s, name, 6, flags);
-    let lifetimes = then_list(s, flag, 8, 6, 256);
+    let lifetimes = then_list(s, flag, limit::LIFETIMES, 6, LIFETIME_NAMES);
     let this = then_receiver(s, lifetimes);
     let result = then_or_none(s, this, t as u32);
-    then_list(s, result, 16, 7, t as u32)
+    then_list(s, result, limit::ARGS, 7, t as u32)
 }
 
 // The body of an item after its kind k.
@@ -101,18 +109,18 @@ fn item_of(s: &[u8], t: u16, k: u16, at: usize) -> Step
     ensures { λ x. ⌜ x ≡ itemOf (now (s .entry)) t k at ⌝ }
 {
     match k {
-        1 => then_list(s, type_head(s, at), 64, 7, t as u32),
-        2 => then_variants(s, then_limited(s, then_repr(s, type_head(s, at), t), 6, 2)),
-        3 | 4 => then_limited(s, type_head(s, at), 6, 4),
-        5 => function(s, 8, t, at),
-        6 => function(s, 4, t, at),
-        7 => type_head(s, at),
-        8 => then_list(
+        item::STRUCT => then_list(s, type_head(s, at), limit::FIELDS, 7, t as u32),
+        item::ENUM => then_variants(s, then_limited(s, then_repr(s, type_head(s, at), t), 6, 2)),
+        item::CXX_TYPE | item::RUST_TYPE => then_limited(s, type_head(s, at), 6, 4),
+        item::CXX_FUNCTION => function(s, 8, t, at),
+        item::RUST_FUNCTION => function(s, 4, t, at),
+        item::TYPE_ALIAS => type_head(s, at),
+        item::IMPL => then_list(
             s,
             then_limited(s, limited(s, 7, t as u32, at), 6, 2),
-            8,
+            limit::LIFETIMES,
             6,
-            256,
+            LIFETIME_NAMES,
         ),
         _ => Step::Next(at),
     }
@@ -128,7 +136,7 @@ fn item_at(s: &[u8], t: u16, i: u16, at: usize) -> Step
             position: 4 + 2 * (t as usize + i as usize),
         };
     }
-    let first = limited(s, 6, 9, at);
+    let first = limited(s, 6, ITEM_KINDS, at);
     let Step::Next(p) = first else {
         return first;
     };

@@ -6,19 +6,19 @@ ghost use Rattle.rules.specs.View.{
   itemPlace,
   itemKind,
   itemIs,
+  functionKind,
+  typeKind,
+  enumKind,
   isFunction,
   isType,
   itemName,
   entry,
   lifetimesPlace,
   lifetimeCount,
-  lifetime,
   derivesPlace,
   deriveCount,
-  derive,
   rest,
   fieldCount,
-  field,
   enumRepr,
   enumExplicit,
   enumVariants,
@@ -35,6 +35,7 @@ use crate::logic::and;
 use crate::logic::or;
 use crate::offset;
 use crate::pair_at;
+use rules::item;
 
 // Flags 1, 2 and 4 of a sum.
 pub fn flag1(f: u16) -> bool
@@ -88,19 +89,38 @@ pub fn item_is(s: &[u8], k: u16, i: u16) -> bool
     item_kind(s, i) == k
 }
 
+// Kinds of items that go together: functions; structs, enums, CxxTypes, RustTypes and aliases; enums.
+pub fn function_kind(k: u16) -> bool
+    ensures { λ x. ⌜ x ≡ functionKind k ⌝ }
+{
+    or(k == item::CXX_FUNCTION, k == item::RUST_FUNCTION)
+}
+
+pub fn type_kind(k: u16) -> bool
+    ensures { λ x. ⌜ x ≡ typeKind k ⌝ }
+{
+    or(
+        and(item::STRUCT <= k, k <= item::RUST_TYPE),
+        k == item::TYPE_ALIAS,
+    )
+}
+
+pub fn enum_kind(k: u16) -> bool
+    ensures { λ x. ⌜ x ≡ enumKind k ⌝ }
+{
+    k == item::ENUM
+}
+
 pub fn is_function(s: &[u8], i: u16) -> bool
     ensures { λ x. ⌜ x ≡ isFunction (now (s .entry)) i ⌝ }
 {
-    let k = item_kind(s, i);
-    or(k == 5, k == 6)
+    function_kind(item_kind(s, i))
 }
 
-// A struct, enum, CxxType, RustType or alias.
 pub fn is_type(s: &[u8], i: u16) -> bool
     ensures { λ x. ⌜ x ≡ isType (now (s .entry)) i ⌝ }
 {
-    let k = item_kind(s, i);
-    or(and(1 <= k, k <= 4), k == 7)
+    type_kind(item_kind(s, i))
 }
 
 // The name of an item of kind 1 to 7.
@@ -131,12 +151,6 @@ pub fn lifetime_count(s: &[u8], i: u16) -> u16
     pair_at(s, lifetimes_place(s, i) as usize)
 }
 
-pub fn lifetime(s: &[u8], i: u16, j: u16) -> u16
-    ensures { λ x. ⌜ x ≡ lifetime (now (s .entry)) i j ⌝ }
-{
-    entry(s, lifetimes_place(s, i), j)
-}
-
 // Of kinds 1, 2, 3, 4 and 7: the derives, and the place behind them.
 pub fn derives_place(s: &[u8], i: u16) -> u32
     ensures { λ x. ⌜ x ≡ derivesPlace (now (s .entry)) i ⌝ }
@@ -149,12 +163,6 @@ pub fn derive_count(s: &[u8], i: u16) -> u16
     ensures { λ x. ⌜ x ≡ deriveCount (now (s .entry)) i ⌝ }
 {
     pair_at(s, derives_place(s, i) as usize)
-}
-
-pub fn derive(s: &[u8], i: u16, j: u16) -> u16
-    ensures { λ x. ⌜ x ≡ derive (now (s .entry)) i j ⌝ }
-{
-    entry(s, derives_place(s, i), j)
 }
 
 pub fn rest(s: &[u8], i: u16) -> u32
@@ -170,12 +178,6 @@ pub fn field_count(s: &[u8], i: u16) -> u16
     ensures { λ x. ⌜ x ≡ fieldCount (now (s .entry)) i ⌝ }
 {
     pair_at(s, rest(s, i) as usize)
-}
-
-pub fn field(s: &[u8], i: u16, j: u16) -> u16
-    ensures { λ x. ⌜ x ≡ field (now (s .entry)) i j ⌝ }
-{
-    entry(s, rest(s, i), j)
 }
 
 // Of an Enum: its repr row, whether that was explicit, the variants, and how many of them are marked default.

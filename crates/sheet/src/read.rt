@@ -6,13 +6,20 @@ use crate::item_steps::all_items;
 use crate::pair_at;
 use crate::row_steps::all_rows;
 use rules::Step;
+use rules::limit;
+use rules::size;
+
+// The limits of the two counts, as wide as a pair.
+const ROWS: u16 = limit::ROWS as u16;
+
+const ITEMS: u16 = limit::ITEMS as u16;
 
 // The whole sheet: `Next` at its end where it is accepted.
 pub fn read(s: &[u8]) -> Step
     ensures { λ x. ⌜ x ≡ read (now (s .entry)) ⌝ }
 {
     let n = s.len();
-    if n > 32768 {
+    if n > limit::BYTES {
         return Step::Refused {
             number: 2,
             position: 0,
@@ -25,14 +32,14 @@ pub fn read(s: &[u8]) -> Step
         };
     }
     let t = pair_at(s, 0);
-    if t > 1024 {
+    if t > ROWS {
         return Step::Refused {
             number: 4,
             position: 0,
         };
     }
     let a = pair_at(s, 2);
-    if a > 255 {
+    if a > ITEMS {
         return Step::Refused {
             number: 4,
             position: 2,
@@ -67,7 +74,7 @@ pub fn read(s: &[u8]) -> Step
 pub fn read_with(scratch: usize, s: &[u8]) -> Step
     ensures { λ x. ⌜ x ≡ readWith scratch (now (s .entry)) ⌝ }
 {
-    if scratch < 4096 {
+    if scratch < size::SCRATCH {
         return Step::Refused {
             number: 1,
             position: 0,

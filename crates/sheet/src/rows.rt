@@ -3,6 +3,7 @@ ghost use mathlib.Core.Path.{_≡_};
 ghost use Rattle.rules.specs.View.{kind, is, rowName, rowFlags, inner, fnReturn, fnArgCount, fnArg};
 use crate::offset;
 use crate::pair_at;
+use rules::row;
 
 pub fn kind(s: &[u8], r: u16) -> u16
     ensures { λ x. ⌜ x ≡ kind (now (s .entry)) r ⌝ }
@@ -36,14 +37,14 @@ pub fn inner(s: &[u8], r: u16) -> u16
     ensures { λ x. ⌜ x ≡ inner (now (s .entry)) r ⌝ }
 {
     let at = offset(s, r as u32) as usize;
-    if pair_at(s, at) <= 6 {
+    if pair_at(s, at) <= row::CXX_VECTOR {
         pair_at(s, at + 2)
     } else {
         pair_at(s, at + 4)
     }
 }
 
-// Of an Fn: its return row or 65,535, and its argument rows.
+// Of an Fn: its return row or none, and its argument rows.
 pub fn fn_return(s: &[u8], r: u16) -> u16
     ensures { λ x. ⌜ x ≡ fnReturn (now (s .entry)) r ⌝ }
 {

@@ -7,6 +7,24 @@ ghost use lib.ListN.{length};
 ghost use Rattle.rules.specs.Format.{after, limited, orNone, list};
 use crate::pair_at;
 use rules::Step;
+use rules::derive;
+use rules::item;
+use rules::limit;
+use rules::name;
+use rules::row;
+
+// What pairs are limited by: the numbers of rules, as wide as a limit.
+pub const NAMES: u32 = name::COUNT as u32;
+
+pub const LIFETIME_NAMES: u32 = 256;
+
+pub const ROW_KINDS: u32 = row::KINDS as u32;
+
+pub const ITEM_KINDS: u32 = item::KINDS as u32;
+
+pub const DERIVE_KINDS: u32 = derive::KINDS as u32;
+
+pub const VARIANT_COUNTS: u32 = limit::VARIANTS as u32 + 1;
 
 // Whether the sheet has a whole pair at a place.
 fn has_pair(s: &[u8], at: usize) -> bool
@@ -38,11 +56,11 @@ pub fn limited(s: &[u8], why: u8, limit: u32, at: usize) -> Step
     }
 }
 
-// A row below a limit, or 65,535 for none.
+// A row below a limit, or none.
 pub fn or_none(s: &[u8], limit: u32, at: usize) -> Step
     ensures { λ r. ⌜ r ≡ orNone (now (s .entry)) limit at ⌝ }
 {
-    if pair_at(s, at) == 65535 {
+    if pair_at(s, at) == row::NONE {
         limited(s, 7, 65536, at)
     } else {
         limited(s, 7, limit, at)

@@ -1,72 +1,71 @@
--- Where a field leads, in the three cases that the code tells apart; and what the graph of an accepted sheet is like.
+-- The graph of a lent table: it is bounded, its fields lead to struct items or to none, and the code reads off the table where they lead.
 -- Assumes nothing.
 use Prim.Native.Nat.{ℕ, _<_, _≤_}
-use mathlib.Core.Path.{_≡_, sym, ap, _∙_}
-use mathlib.Core.Bool.{true, false}
+use mathlib.Core.Path.{_≡_, refl, sym, ap, _∙_}
+use mathlib.Core.Logic.{_≢_}
 use mathlib.Core.List.{List}
 use native.Mathlib.Omega.{arith}
-use lib.ListN.{length, getD, List·getD-eq-default}
-use lib.Seq.{set-getD, getD-set-same}
-use Rattle.rules.specs.Base.{if_then_else_}
-use Rattle.rules.specs.Format.{pairAt, Accepted}
-use Rattle.rules.specs.View.{Ident, is, rowName, items, fieldCount, field, rest, entry}
-use Rattle.rules.specs.Collect.{none, entersStructs}
-use Rattle.rules.specs.Types.{typesOf, structOf}
-use Rattle.rules.specs.Order.{graphOf, leadsTo}
+use lib.ListN.{getD}
+use Rattle.rules.specs.Numbers.{noItem, mostItems, mostRows, mostFields}
+use Rattle.rules.specs.Format.{pairAt}
+use Rattle.rules.specs.View.{rows, items, fieldCount, field, rest, entry}
 use Rattle.rules.specs.Rule3.{IsStruct}
-use Rattle.laws.proofs.Chains.{Good}
-use Rattle.laws.proofs.LastItems.{length-last, struct-is, good}
-use Rattle.laws.proofs.Accepted.{fits}
-use Rattle.laws.proofs.Accepted.Items.{item-of}
+use Rattle.laws.specs.RowTable.{leadBy}
+use Rattle.laws.proofs.graph.Chains.{Good}
+use Rattle.laws.proofs.base.Counts.{Eq?, same, other, eq?}
+use Rattle.laws.proofs.names.LastItems.{struct-is}
+use Rattle.laws.proofs.sheet.Accepted.{few-items, field-row}
+use Rattle.laws.proofs.sheet.Accepted.Items.{item-of}
+use Rattle.laws.proofs.sheet.Accepted.Sheet.{sheet-of}
+use Rattle.laws.proofs.graph.SameEdges.{lead-at, table-good}
+use Rattle.toposort.specs.Leads.{Led, tableGraph}
 use Rattle.toposort.proofs.Parts.{Bounded}
 
-module _ (s : List ℕ) where
-  pub last-length : length (typesOf s .lastStruct) ≡ 256
-  unfolding typesOf
-  last-length = length-last s (entersStructs s) (items s)
+module _ {s d : List ℕ} (own : Led s d) where
+  -- ## What the graph is like
 
-  -- the table at a name, as the code reads it
-  last-at : (l : List ℕ) (n : ℕ) → l ≡ typesOf s .lastStruct → n < 256 → getD l n 0 ≡ structOf (typesOf s) n
-  unfolding structOf
-  last-at l n e h =
-      let inside : n < length l = omega (arith, ap length e, last-length) in
-      rw (← e) (ap (λ (x : List ℕ). getD x n 0) (sym (set-getD l n none)) ∙ getD-set-same l n (getD l n none) 0 inside)
+  pub own-good : Good (tableGraph s d) (items s)
+  own-good = table-good s d (own .table) (items s) (omega arith) (few-items s (own .accepted))
 
-  module _ (l : List ℕ) (own : l ≡ typesOf s .lastStruct) (row at i k : ℕ) (r : row ≡ entry s at k) (a : at ≡ rest s i) where
+  pub whole : Good (tableGraph s d) mostItems
+  whole = table-good s d (own .table) mostItems (few-items s (own .accepted)) (omega arith)
+
+  pub few-fields : (i : ℕ) → IsStruct s i → fieldCount s i ≤ mostFields
+  few-fields i h = item-of s (own .accepted) i (h .below) .as-struct (h .is-struct) .few-fields
+
+  pub bounded : Bounded (tableGraph s d)
+  bounded = record { good = whole; few = λ i t. few-fields i (struct-is s i .0 t) }
+
+  pub struct-below : (i : ℕ) → IsStruct s i → i < mostItems
+  struct-below i h = whole .below i (struct-is s i .1 h)
+
+  -- a field that leads somewhere leads to a struct item
+  pub leads-struct : (i k e : ℕ) → k < fieldCount s i → e ≡ tableGraph s d .to i k → e ≢ noItem → IsStruct s e
+  leads-struct i k e l q ne = rw q (struct-is s (tableGraph s d .to i k) .0 (whole .closed i k l (λ z. ne (q ∙ z))))
+
+  -- no field leads past the items
+  pub leads-below : (i k : ℕ) → k < fieldCount s i → tableGraph s d .to i k < 256
+  leads-below i k l = at (eq? (tableGraph s d .to i k) noItem)
+    where
+      at : Eq? (tableGraph s d .to i k) noItem → tableGraph s d .to i k < 256
+      at (same _ q) = omega (arith, q)
+      at (other _ q) = omega (arith, struct-below (tableGraph s d .to i k) (leads-struct i k (tableGraph s d .to i k) l refl q))
+
+  -- ## Where a field leads, as the code reads it
+
+  pub few-rows : rows s ≤ mostRows
+  few-rows = sheet-of s (own .accepted) .few-rows
+
+  module _ (i k at row : ℕ) (h : IsStruct s i) (a : at ≡ rest s i) (l : k < fieldCount s i) (r : row ≡ entry s at k) where
     row-is : row ≡ field s i k
     unfolding field
     row-is = rw a at r
 
-    pub leads-named : (name : ℕ) → is s Ident row ≡ true → name ≡ rowName s row → name < 256 → getD l name 0 ≡ leadsTo s (typesOf s) i k
-    unfolding leadsTo if_then_else_
-    leads-named name e q h = rw (← row-is, e, if_then_else_, ← q) (last-at l name own h)
+    pub row-below : row < rows s
+    row-below = rw row-is (field-row s (own .accepted) i k h l)
 
-    pub leads-far : (name : ℕ) → is s Ident row ≡ true → name ≡ rowName s row → 256 ≤ name → 255 ≡ leadsTo s (typesOf s) i k
-    unfolding leadsTo structOf if_then_else_
-    leads-far name e q h = rw (← row-is, e, if_then_else_, ← q) (sym (List·getD-eq-default (typesOf s .lastStruct) 255 (omega (arith, last-length))))
-
-    pub leads-nowhere : is s Ident row ≡ false → 255 ≡ leadsTo s (typesOf s) i k
-    unfolding leadsTo if_then_else_
-    leads-nowhere e = rw (← row-is, e, if_then_else_)
-
--- ## The graph of an accepted sheet
-
-module _ (s : List ℕ) (acc : Accepted s) where
-  pub whole : Good (graphOf s (typesOf s)) 255
-  whole = good s (fits s acc)
-
-  pub few-fields : (i : ℕ) → IsStruct s i → fieldCount s i ≤ 64
-  few-fields i h = item-of s acc i (h .below) .as-struct (h .is-struct) .few-fields
-
-  pub bounded : Bounded (graphOf s (typesOf s))
-  bounded = record { good = whole; few = λ i t. few-fields i (struct-is s i .0 t) }
-
-  pub struct-below : (i : ℕ) → IsStruct s i → i < 255
-  struct-below i h = whole .below i (struct-is s i .1 h)
-
-  -- a field that leads somewhere leads to a struct item
-  pub leads-struct : (i k e : ℕ) → k < fieldCount s i → e ≡ leadsTo s (typesOf s) i k → (e ≡ 255 → ⊥) → IsStruct s e
-  leads-struct i k e l q ne = rw q (struct-is s (leadsTo s (typesOf s) i k) .0 (whole .closed i k l (λ z. ne (q ∙ z))))
+    pub led-at : getD d row 0 ≡ leadBy s d (field s i k)
+    led-at = sym (lead-at s d row row-below) ∙ ap (leadBy s d) row-is
 
 -- the number of fields, as the code reads it
 pub counted-is : (s : List ℕ) (i at n : ℕ) → at ≡ rest s i → n ≡ pairAt s at → n ≡ fieldCount s i

@@ -3,3 +3,4 @@ pub mod Parts
 pub mod Turns
 pub mod Sorting
 pub mod TierTurns
+pub mod Callers

@@ -2,35 +2,33 @@
 -- Assumes nothing.
 use Prim.Native.Nat.{ℕ, zero, suc, _+_, _*_, _≤_, _<_}
 use mathlib.Core.Path.{_≡_, refl, ap, _∙_}
-use mathlib.Core.List.{List, [], _∷_, _++_}
-use native.Mathlib.Nat.{add-zero, add-suc, suc-add}
+use mathlib.Core.List.{List, [], _∷_}
 use native.Mathlib.Numerals.{add-one}
 use native.Mathlib.Omega.{arith}
 use borrow.Author.Tests.{eqb-true, eqb-false}
 use lib.Dec.{T, eqb}
 use lib.ListN.{length, getD, set, length-append, length-set}
-use lib.Seq.{sets}
 use Rattle.rules.specs.Graph.{Graph}
 use Rattle.rules.specs.Walk.{Out, still, join, fieldOut, fieldsOut, visitOut, itemOut, itemsOut}
-use Rattle.laws.proofs.Tests.{both, holds}
-use Rattle.laws.proofs.Stores.{sets-append}
+use Rattle.laws.proofs.base.Tests.{both, holds}
+use Rattle.laws.proofs.base.Stores.{sets-append}
 use Rattle.laws.specs.Left.{fresh}
-use Rattle.laws.proofs.Counts.{fresh-set, fresh-set-le}
-use Rattle.laws.proofs.Chains.{Good}
-use Rattle.errors.specs.Sink.{also, none}
+use Rattle.laws.proofs.base.Counts.{fresh-set, fresh-set-le}
+use Rattle.laws.proofs.graph.Chains.{Good}
+use Rattle.errors.specs.Sink.{also, silent}
 use Rattle.toposort.specs.declared.Walk.{Walk}
 use Rattle.toposort.specs.State.{Did, Room}
 
 -- ## One part after another
 
-pub did-still : (b : List ℕ) (v : Walk) → Did b v (still (v .marks)) v b
-did-still b v = record { marks = refl; order = refl; len = omega arith; calls = omega arith; errors = none b (v .errors) }
+pub did-still : (b o : List ℕ) (v : Walk) → Did b o v (still (v .marks)) v b o
+did-still b o v = record { marks = refl; order = refl; len = omega arith; calls = omega arith; errors = silent b (v .errors) }
 
-pub did-join : {b b′ b″ : List ℕ} {v r r′ : Walk} {a c : Out} → Did b v a r b′ → Did b′ r c r′ b″ → Did b v (join a c) r′ b″
-did-join {v = v} {a = a} {c = c} p q =
+pub did-join : {b b′ b″ o o′ o″ : List ℕ} {v r r′ : Walk} {a c : Out} → Did b o v a r b′ o′ → Did b′ o′ r c r′ b″ o″ → Did b o v (join a c) r′ b″ o″
+did-join {o = o} {v = v} {a = a} {c = c} p q =
     record {
       marks = q .marks;
-      order = q .order ∙ rw (p .order, p .len) (sets-append (v .order) (v .len) (a .sorted) (c .sorted));
+      order = q .order ∙ rw (p .order, p .len) (sets-append o (v .len) (a .sorted) (c .sorted));
       len = omega (arith, p .len, q .len, length-append (a .sorted) (c .sorted));
       calls = omega (arith, p .calls, q .calls);
       errors = also (p .errors) (q .errors);
@@ -113,7 +111,7 @@ module _ {G : Graph} (lim : Bounded G) where
       rw (← add-one i) (spends-join a (spends-item f i (itemsOut f G i m .marks) (a .long ∙ h)))
 
 -- what is left after a part
-pub room-after : {b b′ : List ℕ} {v r : Walk} {a : Out} {q l : ℕ} → Room v (q + l) → Spends q (v .marks) a → Did b v a r b′ → Room r l
+pub room-after : {b b′ o o′ : List ℕ} {v r : Walk} {a : Out} {q l : ℕ} → Room v (q + l) → Spends q (v .marks) a → Did b o v a r b′ o′ → Room r l
 room-after {v = v} {r} {a} h p d =
     let m : fresh (r .marks) ≡ fresh (a .marks) = ap fresh (d .marks) in
     record { len = omega (arith, h .len, p .places, d .len); calls = omega (arith, h .calls, p .calls, d .calls) }

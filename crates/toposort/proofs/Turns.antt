@@ -11,14 +11,14 @@ use borrow.Author.Tests.{eq-eqb, ne-eqb}
 use lib.Dec.{eqb}
 use lib.ListN.{length, getD, set, length-append}
 use Rattle.rules.specs.declared.Place.the-variants.{F}
-use Rattle.rules.specs.Diagnostics.{say, when}
+use Rattle.rules.specs.Diagnostics.{say}
 use Rattle.rules.specs.Graph.{Graph}
 use Rattle.rules.specs.Walk.{Out, finished, fieldOut, fieldsOut, visitOut}
 use Rattle.laws.specs.Left.{fresh}
-use Rattle.laws.proofs.Counts.{fresh-set}
-use Rattle.laws.proofs.Stores.{sets-append}
+use Rattle.laws.proofs.base.Counts.{fresh-set}
+use Rattle.laws.proofs.base.Stores.{sets-append}
 use Rattle.errors.specs.declared.Errors.{Errors}
-use Rattle.errors.specs.Sink.{Reported, also, none, meant}
+use Rattle.errors.specs.Sink.{Reported, also, silent, meant}
 use Rattle.toposort.specs.declared.Walk.{Walk}
 use Rattle.toposort.specs.State.{Did, Done, Visits, Room}
 use Rattle.toposort.proofs.Parts.{did-still, did-join, Spends, Bounded, spends-first, room-after, room-less}
@@ -26,27 +26,27 @@ use Rattle.toposort.proofs.Parts.{did-still, did-join, Spends, Bounded,
 -- ## One field
 
 -- a is done after v, and `ok` says whether both succeeded
-pub record Stepped (b : List ℕ) (v : Walk) (a : Out) (r : Walk) (b′ : List ℕ) : Type 0 where
-  pub did : Did b v a r b′
+pub record Stepped (b o : List ℕ) (v : Walk) (a : Out) (r : Walk) (b′ o′ : List ℕ) : Type 0 where
+  pub did : Did b o v a r b′ o′
   pub ok : r .ok ≡ v .ok && a .ok
 
-abbrev pub Steps : Graph → List ℕ → Walk → (i k : ℕ) → Walk → List ℕ → Type 0
-Steps G b v i k r b′ = (f : ℕ) → fresh (v .marks) < f → Stepped b v (fieldOut (visitOut f G) G i k (v .marks)) r b′
+abbrev pub Steps : Graph → (b o : List ℕ) → Walk → (i k : ℕ) → Walk → (b′ o′ : List ℕ) → Type 0
+Steps G b o v i k r b′ o′ = (f : ℕ) → fresh (v .marks) < f → Stepped b o v (fieldOut (visitOut f G) G i k (v .marks)) r b′ o′
 
 -- a field that leads nowhere
-pub step-none : (G : Graph) (b : List ℕ) (v : Walk) (i k : ℕ) → G .to i k ≡ 255 → Steps G b v i k v b
+pub step-none : (G : Graph) (b o : List ℕ) (v : Walk) (i k : ℕ) → G .to i k ≡ 255 → Steps G b o v i k v b o
 unfolding fieldOut
-step-none G b v i k e f h = rw (eq-eqb (G .to i k) 255 e, fieldOut) (record { did = did-still b v; ok = sym (and-true (v .ok)) })
+step-none G b o v i k e f h = rw (eq-eqb (G .to i k) 255 e, fieldOut) (record { did = did-still b o v; ok = sym (and-true (v .ok)) })
 
 abbrev pub put-ok : Walk → Bool → Walk
-put-ok w x = record { marks = w .marks; order = w .order; len = w .len; calls = w .calls; errors = w .errors; ok = x }
+put-ok w x = record { marks = w .marks; len = w .len; calls = w .calls; errors = w .errors; ok = x }
 
 abbrev pub put-errors : Walk → Errors → Walk
-put-errors w e = record { marks = w .marks; order = w .order; len = w .len; calls = w .calls; errors = e; ok = w .ok }
+put-errors w e = record { marks = w .marks; len = w .len; calls = w .calls; errors = e; ok = w .ok }
 
 -- a field whose struct was visited
-module _ (G : Graph) (b b′ : List ℕ) (v r : Walk) (i k : ℕ) (e : G .to i k ≡ 255 → ⊥) (d : Visits G b v (G .to i k) r b′) where
-  pub step-ok : r .ok ≡ true → Steps G b v i k (put-ok r (v .ok)) b′
+module _ (G : Graph) (b b′ o o′ : List ℕ) (v r : Walk) (i k : ℕ) (e : G .to i k ≡ 255 → ⊥) (d : Visits G b o v (G .to i k) r b′ o′) where
+  pub step-ok : r .ok ≡ true → Steps G b o v i k (put-ok r (v .ok)) b′ o′
   unfolding fieldOut
   step-ok t f h =
       let a = visitOut f G (v .marks) (G .to i k) in
@@ -58,8 +58,8 @@ module _ (G : Graph) (b b′ : List ℕ) (v r : Walk) (i k : ℕ) (e : G .to i k
         ok = rw q (sym (and-true (v .ok)));
       })
 
-  pub step-bad : (x : Errors) (b″ : List ℕ) → r .ok ≡ false → Reported b′ (r .errors) (when true (say 2 (F i k))) x b″ → Steps G b v i k (put-errors r x) b″
-  unfolding fieldOut when
+  pub step-bad : (x : Errors) (b″ : List ℕ) → r .ok ≡ false → Reported b′ (r .errors) (say 2 (F i k)) x b″ → Steps G b o v i k (put-errors r x) b″ o′
+  unfolding fieldOut
   step-bad x b″ t g f h =
       let a = visitOut f G (v .marks) (G .to i k) in
       let p = d f h .did in
@@ -73,22 +73,22 @@ module _ (G : Graph) (b b′ : List ℕ) (v r : Walk) (i k : ℕ) (e : G .to i k
 -- ## The fields
 
 -- k of the n fields of item i are done
-pub record Going (G : Graph) (b : List ℕ) (i : ℕ) (v₀ : Walk) (n k : ℕ) (b′ : List ℕ) (v : Walk) : Type 0 where
+pub record Going (G : Graph) (b o : List ℕ) (i : ℕ) (v₀ : Walk) (n k : ℕ) (b′ o′ : List ℕ) (v : Walk) : Type 0 where
   pub all : n ≡ G .fields i
   pub upto : k ≤ n
   pub long : length (v₀ .marks) ≡ 255
   pub room : Room v₀ n
   pub place : v₀ .len + fresh (v₀ .marks) < 255
-  pub done : (f : ℕ) → fresh (v₀ .marks) < f → Done b v₀ (fieldsOut (visitOut f G) G i k (v₀ .marks)) v b′
+  pub done : (f : ℕ) → fresh (v₀ .marks) < f → Done b o v₀ (fieldsOut (visitOut f G) G i k (v₀ .marks)) v b′ o′
 
-module _ {G : Graph} (lim : Bounded G) {b : List ℕ} {i : ℕ} {v₀ : Walk} {n k : ℕ} {b′ : List ℕ} {v : Walk} (g : Going G b i v₀ n k b′ v) where
+module _ {G : Graph} (lim : Bounded G) {b o : List ℕ} {i : ℕ} {v₀ : Walk} {n k : ℕ} {b′ o′ : List ℕ} {v : Walk} (g : Going G b o i v₀ n k b′ o′ v) where
   enough : ℕ
   enough = suc (fresh (v₀ .marks))
 
   so-far : Out
   so-far = fieldsOut (visitOut enough G) G i k (v₀ .marks)
 
-  did : Did b v₀ so-far v b′
+  did : Did b o v₀ so-far v b′ o′
   unfolding so-far enough
   did = g .done enough (omega arith) .did
 
@@ -99,6 +99,9 @@ module _ {G : Graph} (lim : Bounded G) {b : List ℕ} {i : ℕ} {v₀ : Walk} {n
   marks-fresh : fresh (v .marks) ≡ fresh (so-far .marks)
   marks-fresh = ap fresh (did .marks)
 
+  pub going-long : length (v .marks) ≡ 255
+  going-long = ap length (did .marks) ∙ spent .long ∙ g .long
+
   pub going-room : Room v (n - k)
   going-room = room-after (room-less (g .room) (omega (arith, g .upto))) spent did
 
@@ -108,45 +111,63 @@ module _ {G : Graph} (lim : Bounded G) {b : List ℕ} {i : ℕ} {v₀ : Walk} {n
   pub going-len : v .len < 255
   going-len = omega (arith, did .len, spent .places, g .place)
 
-  pub going-on : (r : Walk) (b″ : List ℕ) → k < n → Steps G b′ v i k r b″ → Going G b i v₀ n (k + 1) b″ r
+  pub going-on : (r : Walk) (b″ o″ : List ℕ) → k < n → Steps G b′ o′ v i k r b″ o″ → Going G b o i v₀ n (k + 1) b″ o″ r
   unfolding fieldsOut
-  going-on r b″ h d = record { all = g .all; upto = omega arith; long = g .long; room = g .room; place = g .place; done = next }
+  going-on r b″ o″ h d = record { all = g .all; upto = omega arith; long = g .long; room = g .room; place = g .place; done = next }
     where
-      next : (f : ℕ) → fresh (v₀ .marks) < f → Done b v₀ (fieldsOut (visitOut f G) G i (k + 1) (v₀ .marks)) r b″
+      next : (f : ℕ) → fresh (v₀ .marks) < f → Done b o v₀ (fieldsOut (visitOut f G) G i (k + 1) (v₀ .marks)) r b″ o″
       next f hf =
           let a = fieldsOut (visitOut f G) G i k (v₀ .marks) in
           let p = g .done f hf in
           let l = going-fresh in
           let part : List ℕ → Out = λ x. fieldOut (visitOut f G) G i k x in
-          let q : Stepped b′ v (part (a .marks)) r b″ = subst (λ (x : List ℕ). Stepped b′ v (part x) r b″) (p .did .marks) (d f (omega arith)) in
+          let q : Stepped b′ o′ v (part (a .marks)) r b″ o″ = subst (λ (x : List ℕ). Stepped b′ o′ v (part x) r b″ o″) (p .did .marks) (d f (omega arith)) in
           rw add-one (record { did = did-join (p .did) (q .did); ok = q .ok ∙ rw (p .ok) })
 
 -- ## A visit
 
 -- of a struct that was met before
-pub visit-seen : (G : Graph) (b : List ℕ) (w : Walk) (i : ℕ) → (getD (w .marks) i 0 ≡ 0 → ⊥)
-    → Visits G b w i (record { marks = w .marks; order = w .order; len = w .len; calls = w .calls + 1; errors = w .errors; ok = eqb (getD (w .marks) i 0) 2 }) b
+pub visit-seen : (G : Graph) (b o : List ℕ) (w : Walk) (i : ℕ) → (getD (w .marks) i 0 ≡ 0 → ⊥)
+    → Visits G b o w i (record { marks = w .marks; len = w .len; calls = w .calls + 1; errors = w .errors; ok = eqb (getD (w .marks) i 0) 2 }) b o
 unfolding visitOut
-visit-seen G b w i e zero h = absurd (not-suc-le-zero h)
-visit-seen G b w i e (suc f) h =
+visit-seen G b o w i e zero h = absurd (not-suc-le-zero h)
+visit-seen G b o w i e (suc f) h =
     rw (ne-eqb (getD (w .marks) i 0) 0 e, visitOut)
-    (record { did = record { marks = refl; order = refl; len = omega arith; calls = refl; errors = none b (w .errors) }; ok = refl })
+    (record { did = record { marks = refl; order = refl; len = omega arith; calls = refl; errors = silent b (w .errors) }; ok = refl })
+
+-- a field whose struct was marked: its visit is counted, and no more is done
+module _ (G : Graph) (b o : List ℕ) (v : Walk) (i k : ℕ) (e : G .to i k ≡ 255 → ⊥) (x : ℕ) (q : x ≡ G .to i k) (m : getD (v .marks) x 0 ≡ 0 → ⊥)
+    (n : ℕ) (y : Bool) (c : n ≡ v .calls + 1) (z : y ≡ eqb (getD (v .marks) x 0) 2) where
+  -- as the code leaves the state
+  abbrev counted : Bool → Walk
+  counted a = record { marks = v .marks; len = v .len; calls = n; errors = v .errors; ok = a }
+
+  seen-marked : Visits G b o v (G .to i k) (counted y) b o
+  seen-marked = rw (← q, z, c) (visit-seen G b o v x m)
+
+  pub met-ok : y ≡ true → Steps G b o v i k (counted (v .ok)) b o
+  met-ok t = step-ok G b b o o v (counted y) i k e seen-marked t
+
+  pub met-bad : (a : Errors) (b″ : List ℕ) → y ≡ false → Reported b (v .errors) (say 2 (F i k)) a b″
+      → Steps G b o v i k (record { marks = v .marks; len = v .len; calls = n; errors = a; ok = false }) b″ o
+  met-bad a b″ t g = rw (← t) (step-bad G b b o o v (counted y) i k e seen-marked a b″ t g)
 
 -- of a new one, as its fields begin, and as they end
 abbrev pub entered : Walk → ℕ → Walk
-entered w i = record { marks = set (w .marks) i 1; order = w .order; len = w .len; calls = w .calls + 1; errors = w .errors; ok = true }
+entered w i = record { marks = set (w .marks) i 1; len = w .len; calls = w .calls + 1; errors = w .errors; ok = true }
 
 abbrev pub closed : Walk → ℕ → Walk
-closed w i = record { marks = set (w .marks) i 2; order = set (w .order) (w .len) i; len = w .len + 1; calls = w .calls; errors = w .errors; ok = w .ok }
+closed w i = record { marks = set (w .marks) i 2; len = w .len + 1; calls = w .calls; errors = w .errors; ok = w .ok }
 
-done-finished : {b b′ : List ℕ} (w : Walk) (i : ℕ) {a : Out} {v : Walk} → Done b (entered w i) a v b′ → Done b w (finished i a) (closed v i) b′
-done-finished w i {a} {v} d =
+done-finished : {b b′ o o′ : List ℕ} (w : Walk) (i : ℕ) {a : Out} {v : Walk} → Done b o (entered w i) a v b′ o′
+    → Done b o w (finished i a) (closed v i) b′ (set o′ (v .len) i)
+done-finished {o = o} w i {a} {v} d =
     let p = d .did in
     record {
       did =
           record {
             marks = ap (λ (x : List ℕ). set x i 2) (p .marks);
-            order = rw (p .order, p .len) (sets-append (w .order) (w .len) (a .sorted) (i ∷ []));
+            order = rw (p .order, p .len) (sets-append o (w .len) (a .sorted) (i ∷ []));
             len = omega (arith, p .len, length-append (a .sorted) (i ∷ []));
             calls = omega (arith, p .calls);
             errors = p .errors;
@@ -154,8 +175,8 @@ done-finished w i {a} {v} d =
       ok = d .ok;
     }
 
-pub visit-new : {G : Graph} {b b′ : List ℕ} (w : Walk) (i n k : ℕ) {v : Walk} → getD (w .marks) i 0 ≡ 0 → i < length (w .marks)
-    → Going G b i (entered w i) n k b′ v → n ≤ k → Visits G b w i (closed v i) b′
+pub visit-new : {G : Graph} {b b′ o o′ : List ℕ} (w : Walk) (i n k : ℕ) {v : Walk} → getD (w .marks) i 0 ≡ 0 → i < length (w .marks)
+    → Going G b o i (entered w i) n k b′ o′ v → n ≤ k → Visits G b o w i (closed v i) b′ (set o′ (v .len) i)
 unfolding visitOut
 visit-new w i n k e hi g hp zero h = absurd (not-suc-le-zero h)
 visit-new {G} w i n k e hi g hp (suc f) h =

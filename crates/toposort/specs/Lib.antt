@@ -1,2 +1,3 @@
+pub mod Leads
 pub mod State
 pub mod Post

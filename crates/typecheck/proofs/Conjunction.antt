@@ -1,4 +1,4 @@
--- A test in front of others.
+-- A test in front of another.
 -- Assumes nothing.
 use mathlib.Core.Path.{_≡_}
 use mathlib.Core.Bool.{Bool, true, false, _&&_}
@@ -9,10 +9,3 @@ module _ (a b : Bool) where
 
   pub both-so : {x : Bool} → a ≡ true → x ≡ b → x ≡ (a && b)
   both-so e h = rw e h
-
-module _ (a b c : Bool) where
-  pub and-not : a ≡ false → false ≡ (a && b && c)
-  and-not e = rw e
-
-  pub and-so : {x : Bool} → a ≡ true → x ≡ (b && c) → x ≡ (a && b && c)
-  and-so e h = rw e h

@@ -1,6 +1,5 @@
 pub mod ByKind
-pub mod ByName
-pub mod Collected
 pub mod Conjunction
+pub mod DeriveLaws
+pub mod Faults
 pub mod Meant
-pub mod Visitor

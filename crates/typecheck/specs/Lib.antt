@@ -1,3 +1,4 @@
-pub mod Tables
-pub mod Tests
+pub mod Derives
+pub mod Given
 pub mod Post
+pub mod Tests

@@ -1,95 +1,78 @@
--- The parts of check.rs that are functions of their own in the code, by what the code hands over: numbers, rows, and lent tables. `sets` is the table of seven
--- sets: structs, enums, cxx, rust, aliases, untrusted, required-trivial; `sizes` marks the unsized rows.
+-- The parts of check.rs that are functions of their own in the code, by what the code hands over: numbers, rows, and lent tables.
 -- Assumes nothing: these are definitions.
 use Prim.Native.Nat.{ℕ}
-use mathlib.Core.List.{List, [], _++_}
-use mathlib.Core.Bool.{Bool, true, not, _&&_, _||_}
+use mathlib.Core.List.{List, []}
+use mathlib.Core.Bool.{Bool, not, _&&_, _||_}
 use lib.Dec.{eqb}
-use Rattle.rules.specs.declared.Place.the-variants.{I, F, A, O, D, L}
+use Rattle.rules.specs.Numbers.{static, Ptr, CxxFunction, RustFunction}
+use Rattle.rules.specs.declared.Place.the-variants.{I, F, A, O, L}
 use Rattle.rules.specs.declared.Diagnostic.{Diagnostic}
-use Rattle.rules.specs.Base.{if_then_else_, over, anyOf}
+use Rattle.rules.specs.Base.{if_then_else_, over}
 use Rattle.rules.specs.Diagnostics.{say, tell, when}
-use Rattle.rules.specs.Names.{_∋_}
-use Rattle.rules.specs.Collect.{none}
-use Rattle.rules.specs.View.{Ptr, Fn, is, shown, CxxFunction, RustFunction, itemIs, itemName, fieldCount, field}
+use Rattle.rules.specs.View.{is, itemIs, itemName, fieldCount, field}
 use Rattle.rules.specs.View.{functionUnsafe, functionUnwind, isMethod, isFree, selfType, receiverMutable, return, hasReturn, argCount, arg}
-use Rattle.rules.specs.Types.{Types}
-use Rattle.rules.specs.Check.{Default, isBit, ExternType, static, describe, may-have-lifetimes, is-lifetime-mut, check-mut-return-restriction}
-use Rattle.rules.specs.Check.{check-fn-receiver, check-fn-self-type}
-use Rattle.names.specs.Table.{wordsAt}
-use Rattle.typecheck_rows.specs.Tables.{tabled, marked}
-use Rattle.typecheck.specs.Tables.{byName}
+use Rattle.rules.specs.Types.{Types, isStruct, isCxx, isRust, isUntrusted, isRequiredTrivial, untrustedOf, reasonsFor}
+use Rattle.rules.specs.Check.{may-have-lifetimes, check-mut-return-restriction, check-fn-receiver, check-fn-self-type}
+use Rattle.laws.specs.RowTable.{readAt}
+use Rattle.row_tables.specs.Tables.{fnFault}
+use Rattle.typecheck.specs.declared.functions.Function.{Function}
 
--- ## A lifetime or a derive, by its number
+-- ## Names
 
-module _ (i j what : ℕ) where
-  abbrev pub reservedLifetime : List Diagnostic
-  reservedLifetime = when (eqb what static) (say 58 (L i j))
+-- lifetime j of item i, by its number
+abbrev pub reservedLifetime : (i j what : ℕ) → List Diagnostic
+reservedLifetime i j what = when (eqb what static) (say 58 (L i j))
 
-  abbrev pub structDerive : List Diagnostic
-  structDerive = when (isBit what) (say 29 (D i j)) ++ when (eqb what ExternType) (say 30 (D i j))
+-- an untrusted CxxType has the name of struct i: the message is at the last one
+abbrev pub untrustedType : List ℕ → Types → (i : ℕ) → List Diagnostic
+untrustedType s t i = when (isCxx t (itemName s i) && isUntrusted t (itemName s i)) (say 28 (I (untrustedOf t (itemName s i))))
 
-  abbrev pub enumDerive : (defaults : ℕ) → List Diagnostic
-  enumDerive n = when (eqb what Default && not (eqb n 1)) (tell 34 (D i j) n) ++ when (eqb what ExternType) (say 35 (D i j))
-
-  abbrev pub opaqueDerive : (rust : Bool) → List Diagnostic
-  opaqueDerive rust = when (not (eqb what ExternType && rust)) (say 36 (D i j))
-
--- ## The name of item i
-
--- an untrusted CxxType has the name of a struct: the message is at the last one
-abbrev pub untrustedType : (s sets untrusted : List ℕ) (i : ℕ) → List Diagnostic
-untrustedType s w u i =
-    when (wordsAt w 2 ∋ itemName s i && wordsAt w 5 ∋ itemName s i) (say 28 (I (byName u (itemName s i) none)))
-
--- a type that is used where it must be trivial
-abbrev pub requiredType : (s sets reasons : List ℕ) (i : ℕ) → List Diagnostic
-requiredType s w n i = when (wordsAt w 6 ∋ itemName s i) (tell 38 (I i) (byName n (itemName s i) 0))
-
--- ## A row of item i
-
-module _ (s sets sizes : List ℕ) (i : ℕ) where
-  -- field j is row r
-  unfoldable pub structField : (j r : ℕ) → List Diagnostic
-  structField j r = if is s Fn r then say 31 (F i j) else when (marked sizes r) (tell 32 (F i j) (describe s (tabled s sets) r))
-
-  unfoldable pub structFields : List Diagnostic
-  structFields = over (fieldCount s i) (λ j. structField j (field s i j))
-
-  -- argument j is row r; the function is of Rust or of C++, and safe or not
-  unfoldable pub functionArg : (j r : ℕ) (rust safe : Bool) → List Diagnostic
-  functionArg j r rust safe =
-      if is s Fn r then when rust (say 47 (A i j)) else
-      if is s Ptr r then when safe (say 48 (A i j)) else
-      when (marked sizes r) (tell 49 (A i j) (describe s (tabled s sets) r))
-
-  unfoldable pub functionArgs : List Diagnostic
-  functionArgs = over (argCount s i) (λ j. functionArg j (arg s i j) (itemIs s RustFunction i) (not (functionUnsafe s i)))
-
-  unfoldable pub functionReturn : List Diagnostic
-  functionReturn =
-      let r = return s i in
-      if not (hasReturn s i) then [] else
-      if is s Fn r then say 50 (O i) else
-      when (marked sizes r) (tell 51 (O i) (describe s (tabled s sets) r))
-
--- ## A name
+-- type i is used where it must be trivial
+abbrev pub requiredType : List ℕ → Types → (i : ℕ) → List Diagnostic
+requiredType s t i = when (isRequiredTrivial t (itemName s i)) (tell 38 (I i) (reasonsFor t (itemName s i)))
 
 -- no struct, CxxType, RustType or alias has the name
-abbrev pub undeclared : (sets : List ℕ) (n : ℕ) → Bool
-undeclared w n = not (wordsAt w 0 ∋ n) && not (wordsAt w 2 ∋ n) && not (wordsAt w 3 ∋ n)
+abbrev pub undeclared : Types → (n : ℕ) → Bool
+undeclared t n = not (isStruct t n) && not (isCxx t n) && not (isRust t n)
 
--- an unpinned receiver of a C++ type that is neither a struct nor an alias
-abbrev pub opaqueSelf : (sets : List ℕ) (unpinned : Bool) (n : ℕ) → Bool
-opaqueSelf w unpinned n = unpinned && wordsAt w 2 ∋ n && not (wordsAt w 0 ∋ n) && not (wordsAt w 4 ∋ n)
+-- ## A row that stands by value, by the table of faults
+
+-- where there is no fault, nothing; one message for a function pointer, another for what is unsized
+unfoldable pub byFault : (fault : ℕ) (pointer unsized : List Diagnostic) → List Diagnostic
+byFault x p u = if eqb x 0 then [] else if eqb x fnFault then p else u
+
+-- field j of struct i is row r
+abbrev pub structField : (faults : List ℕ) (i j r : ℕ) → List Diagnostic
+structField u i j r = byFault (readAt u r) (say 31 (F i j)) (tell 32 (F i j) (readAt u r))
+
+-- a function, with what each of its arguments asks of it
+abbrev pub functionOf : List ℕ → (i : ℕ) → Function
+functionOf s i = record { item = i; rust = itemIs s RustFunction i; safe = not (functionUnsafe s i) }
+
+module _ (s faults : List ℕ) where
+  unfoldable pub structFields : (i : ℕ) → List Diagnostic
+  structFields i = over (fieldCount s i) (λ j. structField faults i j (field s i j))
+
+  -- argument j is row r
+  unfoldable pub functionArg : Function → (j r : ℕ) → List Diagnostic
+  functionArg f j r =
+      if eqb (readAt faults r) fnFault then when (f .rust) (say 47 (A (f .item) j)) else
+      if is s Ptr r then when (f .safe) (say 48 (A (f .item) j)) else
+      if eqb (readAt faults r) 0 then [] else tell 49 (A (f .item) j) (readAt faults r)
+
+  unfoldable pub functionArgs : (i : ℕ) → List Diagnostic
+  functionArgs i = over (argCount s i) (λ j. functionArg (functionOf s i) j (arg s i j))
+
+  unfoldable pub functionReturn : (i : ℕ) → List Diagnostic
+  functionReturn i =
+      if not (hasReturn s i) then [] else
+      byFault (readAt faults (return s i)) (say 50 (O i)) (tell 51 (O i) (readAt faults (return s i)))
+
+-- ## Functions
 
 -- the `match` over a function's kind: method, free or associated
 abbrev pub fnKind : List ℕ → Types → (i : ℕ) → List Diagnostic
 fnKind s t i = if isMethod s i then check-fn-receiver s t i else if isFree s i then [] else check-fn-self-type s t i
-
--- `FindLifetimeMut` at row r, by the table of smaller rows
-abbrev pub mutRow : List ℕ → Types → (smaller : ℕ → Bool) (r : ℕ) → Bool
-mutRow s t smaller r = if is-lifetime-mut s t r then true else anyOf smaller (shown s r)
 
 -- a method whose receiver is mutable, or of a type that may have lifetimes
 abbrev pub receiverMayLend : List ℕ → Types → (i : ℕ) → Bool

@@ -1,19 +1,18 @@
 -- The first `match` of `do_typecheck`: its table of checks at the kind of a row.
 -- Assumes nothing.
 use Prim.Native.Nat.{ℕ, zero, suc}
-use mathlib.Core.Path.{_≡_, refl, ap, _∙_}
+use mathlib.Core.Path.{_≡_, refl, ap}
 use mathlib.Core.List.{List, []}
 use lib.ListN.{getD}
 use Rattle.rules.specs.View.{kind}
 use Rattle.rules.specs.Types.{Types}
 use Rattle.rules.specs.Check.{no-check, type-checks, check-type}
 
--- by types that are those meant
-pub by-kind : (s : List ℕ) (r : ℕ) {k : ℕ} {t u : Types} → k ≡ kind s r → t ≡ u → getD (type-checks s t) k (no-check s t) r ≡ check-type s u r
-unfolding check-type
-by-kind s r {t = t} e h = ap (λ (k : ℕ). getD (type-checks s t) k (no-check s t) r) e ∙ ap (λ (x : Types). check-type s x r) h
-
 module _ (s : List ℕ) (t : Types) (r : ℕ) where
+  pub by-kind : {k : ℕ} → k ≡ kind s r → getD (type-checks s t) k (no-check s t) r ≡ check-type s t r
+  unfolding check-type
+  by-kind e = ap (λ (k : ℕ). getD (type-checks s t) k (no-check s t) r) e
+
   -- kinds 9 and 13, and none beyond
   pub nothing : (k : ℕ) → (k ≡ 0 → ⊥) → (k ≡ 1 → ⊥) → (k ≡ 2 → ⊥) → (k ≡ 3 → ⊥) → (k ≡ 4 → ⊥) → (k ≡ 5 → ⊥) → (k ≡ 6 → ⊥)
       → (k ≡ 7 → ⊥) → (k ≡ 8 → ⊥) → (k ≡ 10 → ⊥) → (k ≡ 11 → ⊥) → (k ≡ 12 → ⊥)

@@ -1,5 +1,3 @@
 // The collected rows of a sheet: the first `match` of `do_typecheck` (check.rs), messages 3 to 26.
-pub mod kinds; // the numbers of docs/SHEET.md, by their names
 pub mod rows; // the other kinds, and the `match` over all kinds
-pub mod sizes; // which rows are unsized, and what to call a type
 pub mod targets; // what Box, Vec, the smart pointers and the C++ vector may hold

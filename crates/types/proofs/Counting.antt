@@ -1,96 +1,117 @@
--- Reasons are counted one list after another; a list of reasons by the tests that the code makes; and where a sheet's reasons are few enough, the counts that
--- stop are the rules' own.
+-- Reasons are counted one list after another, and no count changes what the table says of extern C++ types (`extern-same`); a list of reasons by the tests
+-- that the code makes; and where a sheet's reasons are few enough, the counts that stop are the rules' own (`tally-counts`).
 -- Assumes nothing.
-use Prim.Native.Nat.{ℕ, _+_, _≤_, _<_}
-use mathlib.Core.Path.{_≡_, refl, sym, ap, _∙_}
-use mathlib.Core.Bool.{Bool, true, false, not, _&&_, _||_}
+use Prim.Native.Nat.{ℕ, zero, suc, _+_, _*_, _≤_, _<_}
+use mathlib.Core.Path.{_≡_, refl, sym, ap, ap₂, _∙_}
+use mathlib.Core.Logic.{_≢_}
+use mathlib.Core.Bool.{Bool, true, false, not, _||_}
 use mathlib.Core.List.{List, [], _∷_, _++_}
 use native.Mathlib.Omega.{arith}
 use native.Mathlib.Numerals.{add-one}
 use native.Mathlib.Decide.{decLt}
-use lib.ListN.{length, getD, set, replicate, length-set, length-replicate}
-use lib.Seq.{ext-getD, set-out, getD-set-same, getD-set-other}
+use lib.ListN.{length}
 use lib.Dec.{ltb, eqb}
-use borrow.Author.Tests.{lt-ltb, eq-eqb, ne-eqb}
+use borrow.Author.Tests.{lt-ltb, le-ltb, eq-eqb, ne-eqb}
+use Rattle.rules.specs.Numbers.{RustBox, RustVec, SliceRef, Struct, noRow, nameCount, structSet, enumSet, cxxSet, requiredTrivialSet}
 use Rattle.rules.specs.Base.{if_then_else_, over}
 use Rattle.rules.specs.Count.{count}
 use Rattle.rules.specs.Format.{pairAt}
-use Rattle.rules.specs.Names.{Words, add, namesBelow, _∋_}
-use Rattle.rules.specs.View.{Ident, RustBox, RustVec, SliceRef, kind, is, rowName, inner, entry, itemKind}
+use Rattle.rules.specs.Names.{Words}
+use Rattle.rules.specs.View.{functionKind, kind, is, inner, entry, items, itemKind}
 use Rattle.rules.specs.View.{itemIs, isFunction, rest, fieldCount, field, returnPlace, hasReturn, return, argCount, arg}
-use Rattle.rules.specs.Trivial.{insist, reasonsOfItem, reasonsOfRow, reasonsOf, requiredOf}
-use Rattle.laws.proofs.Counts.{Eq?, same, other, eq?}
-use Rattle.laws.proofs.Tests.{never, both-are}
-use Rattle.laws.proofs.Lists.{zeros-get}
-use Rattle.laws.proofs.Bounds.Reasons.{reasons-length, reasons-are}
-use Rattle.names.specs.Table.{wordsAt}
-use Rattle.names.proofs.Laws.{has-out}
-use Rattle.types.specs.Reasons.{oneMore, countAll, Counted, ofPlain, ofItem, ofRow, ReadyRequired, Required}
-use Rattle.types.specs.Named.{EnteredIf}
+use Rattle.rules.specs.Trivial.{externIn, insist, reasonsOfItem, reasonsOfRow}
+use Rattle.rules.specs.Types.{isExtern, reasonsFor}
+use Rattle.laws.proofs.base.Counts.{Eq?, same, other, eq?}
+use Rattle.names.specs.Known.{columnCount, tableSize, entryAt, namesIn, tabled, entered}
+use Rattle.names.proofs.Columns.{entry-out, count-is, entered-out, entered-long, entered-here, entered-there, entered-other, column-same}
+use Rattle.row_tables.specs.Tables.{oneOf}
+use Rattle.types.specs.Reasons.{mostReasons, oneMore, tally, Tallied, Wants, ofPlain, ofReturn, ofItem, ofRow, ofAll}
 
 -- ## One list after another
 
-count-append : (t xs ys : List ℕ) → countAll (countAll t xs) ys ≡ countAll t (xs ++ ys)
-unfolding countAll
-count-append t [] ys = refl
-count-append t (x ∷ xs) ys = count-append (set t x (oneMore (getD t x 0))) xs ys
+abbrev reasons : ℕ
+reasons = requiredTrivialSet
 
-pub count-none : {t : List ℕ} → Counted t [] t
-unfolding countAll
-count-none = record { is = refl }
+-- the table with one reason more for a name
+abbrev counted : (w : List ℕ) (n : ℕ) → List ℕ
+counted w n = entered w reasons true n (oneMore (entryAt w reasons n))
 
-pub count-then : {xs ys t u v : List ℕ} → Counted t xs u → Counted u ys v → Counted t (xs ++ ys) v
-count-then {xs} {ys} {t} p q = record { is = (rw (p .is) at (q .is)) ∙ count-append t xs ys }
+tally-append : (w xs ys : List ℕ) → tally (tally w xs) ys ≡ tally w (xs ++ ys)
+unfolding tally
+tally-append w [] ys = refl
+tally-append w (x ∷ xs) ys = tally-append (counted w x) xs ys
+
+pub tally-none : {w : List ℕ} → Tallied w [] w
+unfolding tally
+tally-none = record { is = refl }
+
+pub tally-then : {xs ys w u v : List ℕ} → Tallied w xs u → Tallied u ys v → Tallied w (xs ++ ys) v
+tally-then {xs} {ys} {w} p q = record { is = (rw (p .is) at (q .is)) ∙ tally-append w xs ys }
+
+-- every other column stays as it was
+pub tally-other : (ns w : List ℕ) (j n : ℕ) → j ≢ requiredTrivialSet → j < columnCount → n < nameCount → entryAt (tally w ns) j n ≡ entryAt w j n
+unfolding tally
+tally-other [] w j n ne h l = refl
+tally-other (m ∷ ns) w j n ne h l = tally-other ns (counted w m) j n ne h l ∙ entered-other w reasons m (oneMore (entryAt w reasons m)) true j n ne h l
+
+-- and with it what is an extern C++ type
+pub extern-same : (s : List ℕ) {w ns u : List ℕ} → Tallied w ns u → isExtern (tabled s u) ≡ isExtern (tabled s w)
+unfolding isExtern tabled
+extern-same s {w} {ns} {u} p =
+    rw (p .is)
+    (ap (λ (x : Words). externIn x (namesIn (tally w ns) enumSet) (namesIn (tally w ns) cxxSet)) (kept structSet (λ e. omega arith) (omega arith))
+    ∙ ap (λ (x : Words). externIn (namesIn w structSet) x (namesIn (tally w ns) cxxSet)) (kept enumSet (λ e. omega arith) (omega arith))
+    ∙ ap (λ (x : Words). externIn (namesIn w structSet) (namesIn w enumSet) x) (kept cxxSet (λ e. omega arith) (omega arith)))
+  where
+    kept : (k : ℕ) → k ≢ requiredTrivialSet → k < columnCount → namesIn (tally w ns) k ≡ namesIn w k
+    kept k ne h = column-same (tally w ns) w k (λ n l. tally-other ns w k n ne h l)
+
+-- a list by the names as the table so far has them, and as the first one has them
+pub tally-by : (s : List ℕ) {w ns u v : List ℕ} (f : (ℕ → Bool) → List ℕ) → Tallied w ns u → Tallied u (f (isExtern (tabled s u))) v
+    → Tallied u (f (isExtern (tabled s w))) v
+tally-by s f p q = rw (← (extern-same s p)) q
+
+-- and the table of the names that rows want
+pub wants-same : (s : List ℕ) {w ns u : List ℕ} (table : List ℕ) → Tallied w ns u → Wants s w table → Wants s u table
+wants-same s table p h = rw (extern-same s p) h
 
 module _ (f : ℕ → List ℕ) where
-  pub over-none : {t : List ℕ} → Counted t (over 0 f) t
+  pub over-none : {t : List ℕ} → Tallied t (over 0 f) t
   unfolding over
-  over-none = count-none
+  over-none = tally-none
 
-  pub over-more : (j : ℕ) {t u v : List ℕ} → Counted t (over j f) u → Counted u (f j) v → Counted t (over (j + 1) f) v
+  pub over-more : (j : ℕ) {t u v : List ℕ} → Tallied t (over j f) u → Tallied u (f j) v → Tallied t (over (j + 1) f) v
   unfolding over
-  over-more j p q = rw (add-one j) (count-then p q)
+  over-more j p q = rw (add-one j) (tally-then p q)
 
-  pub over-end : (j : ℕ) {n : ℕ} {t u : List ℕ} → Counted t (over j f) u → j ≡ n → Counted t (over n f) u
+  pub over-end : (j : ℕ) {n : ℕ} {t u : List ℕ} → Tallied t (over j f) u → j ≡ n → Tallied t (over n f) u
   over-end j p e = rw (← e) p
 
 -- ## A row
 
-module _ (s sets : List ℕ) (r : ℕ) where
-  pub plain-not : {p : Bool} → p ≡ is s Ident r → p ≡ false → {t : List ℕ} → Counted t (ofPlain s sets r) t
-  unfolding insist if_then_else_
-  plain-not e h = rw (sym e ∙ h) count-none
+-- one reason for a name
+pub name-counted : (s w : List ℕ) (n : ℕ) {x y : ℕ} {u : List ℕ} → x ≡ reasonsFor (tabled s w) n → y ≡ oneMore x → u ≡ entered w requiredTrivialSet true n y
+    → Tallied w (oneOf n) u
+unfolding tally oneOf if_then_else_ reasonsFor tabled
+name-counted s w n {x} {y} {u} had more is = go (decLt n nameCount)
+  where
+    next : u ≡ counted w n
+    next = is ∙ ap (entered w reasons true n) (more ∙ ap oneMore (had ∙ count-is w reasons n))
 
-  module _ {n : ℕ} {p structs enums cxx a b : Bool} (is-plain : p ≡ is s Ident r) (plain : p ≡ true) (named : n ≡ rowName s r)
-      (in-structs : structs ≡ (wordsAt sets 0 ∋ n)) (in-enums : enums ≡ (wordsAt sets 1 ∋ n)) (in-cxx : cxx ≡ (wordsAt sets 2 ∋ n))
-      (first : a ≡ (cxx && not structs))
-      (second : b ≡ (a && not enums)) where
-    plain-is : ofPlain s sets r ≡ (if b then n ∷ [] else [])
-    unfolding insist
-    plain-is = rw (sym is-plain ∙ plain, second, first, in-structs, in-enums, in-cxx, named) refl
+    go : Dec (n < nameCount) → Tallied w (if ltb n nameCount then n ∷ [] else []) u
+    go (yes l) = rw (lt-ltb n nameCount l) (record { is = next })
+    go (no l) =
+        rw (le-ltb n nameCount (omega arith))
+        (record { is = next ∙ sym (entered-out w reasons n (oneMore (entryAt w reasons n)) refl (omega arith)) })
 
-    pub plain-small : b ≡ true → n < 256
-    plain-small h = go (decLt n 256) (both-are cxx (not structs) (sym first ∙ both-are a (not enums) (sym second ∙ h) .0) .0)
-      where
-        go : Dec (n < 256) → cxx ≡ true → n < 256
-        go (yes l) e = l
-        go (no l) e = never (has-out sets 2 n (omega arith) ∙ sym in-cxx ∙ e)
-
-    pub plain-out : b ≡ false → {t : List ℕ} → Counted t (ofPlain s sets r) t
-    unfolding if_then_else_
-    plain-out h = rw (plain-is, h) count-none
-
-    pub plain-in : b ≡ true → (t : List ℕ) {x : ℕ} → x ≡ oneMore (getD t n 0) → Counted t (ofPlain s sets r) (set t n x)
-    unfolding countAll if_then_else_
-    plain-in h t e = rw (plain-is, h, e) (record { is = refl })
-
-  pub return-none : r ≡ 65535 → {t : List ℕ} → Counted t (if not (eqb r 65535) then ofPlain s sets r else []) t
+module _ (s w : List ℕ) (r : ℕ) where
+  pub return-none : r ≡ noRow → Tallied w (ofReturn s w r) w
   unfolding if_then_else_
-  return-none e = rw (eq-eqb r 65535 e) count-none
+  return-none e = rw (eq-eqb r noRow e) tally-none
 
-  pub return-some : (r ≡ 65535 → ⊥) → {t u : List ℕ} → Counted t (ofPlain s sets r) u → Counted t (if not (eqb r 65535) then ofPlain s sets r else []) u
+  pub return-some : (r ≡ noRow → ⊥) → {u : List ℕ} → Tallied w (ofPlain s w r) u → Tallied w (ofReturn s w r) u
   unfolding if_then_else_
-  return-some h p = rw (ne-eqb r 65535 h) p
+  return-some h p = rw (ne-eqb r noRow h) p
 
   -- a collected row
   module _ {k : ℕ} {a b : Bool} (is-kind : k ≡ kind s r) (first : a ≡ (eqb k RustBox || eqb k RustVec)) (second : b ≡ (a || eqb k SliceRef)) where
@@ -98,112 +119,122 @@ module _ (s sets : List ℕ) (r : ℕ) where
     unfolding is
     holder-is = rw (first, is-kind) at second
 
-    pub row-none : b ≡ false → {t : List ℕ} → Counted t (ofRow s sets r) t
+    pub row-none : b ≡ false → Tallied w (ofRow s w r) w
     unfolding reasonsOfRow if_then_else_
-    row-none h = rw (sym holder-is ∙ h) count-none
+    row-none h = rw (sym holder-is ∙ h) tally-none
 
-    pub row-some : b ≡ true → {x : ℕ} {t u : List ℕ} → x ≡ inner s r → Counted t (ofPlain s sets x) u → Counted t (ofRow s sets r) u
+    pub row-some : b ≡ true → {x : ℕ} {u : List ℕ} → x ≡ inner s r → Tallied w (ofPlain s w x) u → Tallied w (ofRow s w r) u
     unfolding reasonsOfRow if_then_else_
     row-some h e p = rw (sym holder-is ∙ h, ← e) p
 
 -- ## An item
 
 -- the reasons of a list
-abbrev listed : (s sets : List ℕ) (at : ℕ) → List ℕ
-listed s sets at = over (pairAt s at) (λ j. ofPlain s sets (entry s at j))
+abbrev listed : (s w : List ℕ) (at : ℕ) → List ℕ
+listed s w at = over (pairAt s at) (λ j. ofPlain s w (entry s at j))
 
-module _ (s sets : List ℕ) (i : ℕ) {k : ℕ} (is-kind : k ≡ itemKind s i) where
-  pub item-fields : k ≡ 1 → {at : ℕ} {t u : List ℕ} → at ≡ rest s i → Counted t (listed s sets at) u → Counted t (ofItem s sets i) u
+module _ (s w : List ℕ) (i : ℕ) {k : ℕ} (is-kind : k ≡ itemKind s i) where
+  pub item-fields : k ≡ Struct → {at : ℕ} {u : List ℕ} → at ≡ rest s i → Tallied w (listed s w at) u → Tallied w (ofItem s w i) u
   unfolding reasonsOfItem itemIs fieldCount field if_then_else_
-  item-fields h e p = rw (eq-eqb (itemKind s i) 1 (sym is-kind ∙ h), ← e) p
+  item-fields h e p = rw (eq-eqb (itemKind s i) Struct (sym is-kind ∙ h), ← e) p
 
-  module _ (other : k ≡ 1 → ⊥) {function : Bool} (test : function ≡ (eqb k 5 || eqb k 6)) where
-    no-struct : eqb (itemKind s i) 1 ≡ false
-    no-struct = ne-eqb (itemKind s i) 1 (λ q. other (is-kind ∙ q))
+  module _ (other : k ≡ Struct → ⊥) {function : Bool} (test : function ≡ functionKind k) where
+    no-struct : eqb (itemKind s i) Struct ≡ false
+    no-struct = ne-eqb (itemKind s i) Struct (λ q. other (is-kind ∙ q))
 
     is-function : function ≡ isFunction s i
-    unfolding isFunction itemIs
+    unfolding isFunction
     is-function = rw is-kind at test
 
-    pub item-none : function ≡ false → {t : List ℕ} → Counted t (ofItem s sets i) t
+    pub item-none : function ≡ false → Tallied w (ofItem s w i) w
     unfolding reasonsOfItem itemIs if_then_else_
-    item-none h = rw (no-struct, sym is-function ∙ h) count-none
+    item-none h = rw (no-struct, sym is-function ∙ h) tally-none
 
-    pub item-function : function ≡ true → {at x : ℕ} {t u v : List ℕ} → at ≡ returnPlace s i → x ≡ pairAt s at → Counted t (listed s sets (at + 2)) u
-        → Counted u (if not (eqb x 65535) then ofPlain s sets x else []) v → Counted t (ofItem s sets i) v
+    pub item-function : function ≡ true → {at x : ℕ} {u v : List ℕ} → at ≡ returnPlace s i → x ≡ pairAt s at → Tallied w (listed s w (at + 2)) u
+        → Tallied u (ofReturn s u x) v → Tallied w (ofItem s w i) v
     unfolding reasonsOfItem itemIs argCount arg hasReturn return if_then_else_
-    item-function h e q p w = rw (no-struct, sym is-function ∙ h, ← e, ← q) (count-then p w)
+    item-function h {x = x} e q p o =
+        let o′ = tally-by s (λ f. if not (eqb x noRow) then insist s f x else []) p o in
+        rw (no-struct, sym is-function ∙ h, ← e, ← q) (tally-then p o′)
+
+-- ## No reasons at all
+
+over-nothing : (n : ℕ) (f : ℕ → List ℕ) → ((x : ℕ) → f x ≡ []) → over n f ≡ []
+unfolding over
+over-nothing zero f h = refl
+over-nothing (suc n) f h = rw (over-nothing n f h, h n)
+
+either-nothing : (b : Bool) (x y : List ℕ) → x ≡ [] → y ≡ [] → (if b then x else y) ≡ []
+unfolding if_then_else_
+either-nothing true x y p q = p
+either-nothing false x y p q = q
+
+module _ (s w : List ℕ) (none : (r : ℕ) → ofPlain s w r ≡ []) where
+  item-nothing : (i : ℕ) → ofItem s w i ≡ []
+  unfolding reasonsOfItem
+  item-nothing i =
+      either-nothing (itemIs s Struct i) _ _ (over-nothing (fieldCount s i) _ (λ j. none (field s i j)))
+      (either-nothing (isFunction s i) _ _
+      (ap₂ (λ (x y : List ℕ). x ++ y) (over-nothing (argCount s i) _ (λ j. none (arg s i j))) (either-nothing (hasReturn s i) _ _ (none (return s i)) refl))
+      refl)
+
+  row-nothing : (r : ℕ) → ofRow s w r ≡ []
+  unfolding reasonsOfRow
+  row-nothing r = either-nothing (is s RustBox r || is s RustVec r || is s SliceRef r) _ _ (none (inner s r)) refl
+
+  pub all-nothing : (scratch : List ℕ) (n : ℕ) → Tallied w (ofAll s w scratch n) w
+  all-nothing scratch n =
+      let rows = over-nothing n (λ k. ofRow s w (pairAt scratch (2 * k))) (λ k. row-nothing (pairAt scratch (2 * k))) in
+      rw (over-nothing (items s) (ofItem s w) item-nothing, rows) tally-none
 
 -- ## The counts are the rules'
 
-count-length : (ns t : List ℕ) → length (countAll t ns) ≡ length t
-unfolding countAll
-count-length [] t = refl
-count-length (n ∷ ns) t = count-length ns (set t n (oneMore (getD t n 0))) ∙ length-set t n (oneMore (getD t n 0))
+pub tally-long : (ns w : List ℕ) → length (tally w ns) ≡ length w
+unfolding tally
+tally-long [] w = refl
+tally-long (n ∷ ns) w = tally-long ns (counted w n) ∙ entered-long w reasons n (oneMore (entryAt w reasons n)) true
+
+one-more : (x : ℕ) → x < mostReasons → oneMore x ≡ x + 1
+unfolding oneMore if_then_else_
+one-more x l = rw (lt-ltb x mostReasons l) refl
 
 -- a count grows by as often as its name stands in the list, where the reasons are few enough
-count-is : (ns t : List ℕ) → ((n : ℕ) → getD t n 0 + length ns ≤ 65535) → (n : ℕ) → n < length t → getD (countAll t ns) n 0 ≡ getD t n 0 + count n ns
-unfolding countAll oneMore if_then_else_
-count-is [] t h n l = omega arith
-count-is (m ∷ ns) t h n l =
-    rw (lt-ltb (getD t m 0) 65535 (omega (arith, h m)), if_then_else_)
-    (here (eq? n m) (count-is ns more fewer n (let e = length-set t m (getD t m 0 + 1) in omega arith)))
+tally-is : (ns w : List ℕ) → length w ≡ tableSize → ((n : ℕ) → entryAt w reasons n + length ns ≤ mostReasons) → (n : ℕ) → n < nameCount
+    → entryAt (tally w ns) reasons n ≡ entryAt w reasons n + count n ns
+unfolding tally
+tally-is [] w long h n l = omega arith
+tally-is (m ∷ ns) w long h n l = tally-is ns (counted w m) (entered-long w reasons m (oneMore (entryAt w reasons m)) true ∙ long) fewer n l ∙ here (eq? n m)
   where
-    more : List ℕ
-    more = set t m (getD t m 0 + 1)
+    more : oneMore (entryAt w reasons m) ≡ entryAt w reasons m + 1
+    more = one-more (entryAt w reasons m) (omega (arith, h m))
 
-    fewer : (x : ℕ) → getD more x 0 + length ns ≤ 65535
-    fewer x = go (eq? x m) (decLt m (length t))
+    at-name : m < nameCount → entryAt (counted w m) reasons m ≡ entryAt w reasons m + 1
+    at-name k = entered-here w reasons m (oneMore (entryAt w reasons m)) (omega arith) k (omega arith) ∙ more
+
+    off-name : (x : ℕ) → x ≢ m → entryAt (counted w m) reasons x ≡ entryAt w reasons x
+    off-name x ne = go (decLt m nameCount) (decLt x nameCount)
       where
-        go : Eq? x m → Dec (m < length t) → getD more x 0 + length ns ≤ 65535
-        go e (no k) = rw (set-out t m (getD t m 0 + 1) (omega arith)) (omega (arith, h x))
-        go (same _ e) (yes k) = rw (e, getD-set-same t m (getD t m 0 + 1) 0 k) (omega (arith, h m))
-        go (other _ e) (yes k) = rw (getD-set-other t m x (getD t m 0 + 1) 0 e) (omega (arith, h x))
+        go : Dec (m < nameCount) → Dec (x < nameCount) → entryAt (counted w m) reasons x ≡ entryAt w reasons x
+        go (yes k) (yes g) = entered-there w reasons m (oneMore (entryAt w reasons m)) (omega arith) k true reasons x (omega arith) g (λ _. ne)
+        go (no k) g = ap (λ (v : List ℕ). entryAt v reasons x) (sym (entered-out w reasons m (oneMore (entryAt w reasons m)) refl (omega arith)))
+        go (yes k) (no g) = entry-out (counted w m) reasons x (omega arith) ∙ sym (entry-out w reasons x (omega arith))
 
-    here : Eq? n m → getD (countAll more ns) n 0 ≡ getD more n 0 + count n ns → getD (countAll more ns) n 0 ≡ getD t n 0 + count n (m ∷ ns)
-    here (same e q) ih =
-        let z : getD more n 0 ≡ getD t n 0 + 1 = rw q (getD-set-same t m (getD t m 0 + 1) 0 (let k : m < length t = rw (← q) l in k)) in
+    fewer : (x : ℕ) → entryAt (counted w m) reasons x + length ns ≤ mostReasons
+    fewer x = go (eq? x m) (decLt m nameCount)
+      where
+        go : Eq? x m → Dec (m < nameCount) → entryAt (counted w m) reasons x + length ns ≤ mostReasons
+        go (same _ e) (yes k) = rw (e, at-name k) (omega (arith, h m))
+        go (same _ e) (no k) = rw (e, entry-out (counted w m) reasons m (omega arith)) (omega (arith, h m))
+        go (other _ e) k = rw (off-name x e) (omega (arith, h x))
+
+    here : Eq? n m → entryAt (counted w m) reasons n + count n ns ≡ entryAt w reasons n + count n (m ∷ ns)
+    here (same e q) =
+        let k : m < nameCount = rw (← q) l in
+        let z : entryAt (counted w m) reasons n ≡ entryAt w reasons n + 1 = rw q (at-name k) in
         rw e (omega arith)
-    here (other e q) ih = rw e (omega (arith, getD-set-other t m n (getD t m 0 + 1) 0 q))
+    here (other e q) = let z = off-name n q in rw e (omega arith)
 
-pub count-reasons : (ns : List ℕ) → length ns ≤ 65535 → countAll (replicate 256 0) ns ≡ reasonsOf ns
-count-reasons ns few =
-    ext-getD 0 (countAll (replicate 256 0) ns) (reasonsOf ns) (size ∙ sym (reasons-length ns))
-    (λ n l. count-is ns (replicate 256 0) (λ m. omega (arith, zeros-get 256 m)) n (omega (arith, size, length-replicate {A = ℕ} 256 0))
-    ∙ omega (arith, zeros-get 256 n)
-    ∙ sym (reasons-are ns n (omega (arith, size))))
-  where
-    size : length (countAll (replicate 256 0) ns) ≡ 256
-    size = count-length ns (replicate 256 0) ∙ length-replicate {A = ℕ} 256 0
-
--- ## The names with a reason
-
-pub record RequiredTo (reasons before : List ℕ) (n : ℕ) (after : List ℕ) : Type 0 where
-  pub long : length after ≡ 28
-  pub here : wordsAt after 6 ≡ namesBelow (λ m. ltb 0 (getD reasons m 0)) n
-  pub others : (j : ℕ) → ltb j 7 ≡ true → eqb j 6 ≡ false → wordsAt after j ≡ wordsAt before j
-
-module _ {reasons before : List ℕ} where
-  pub required-none : ReadyRequired before → RequiredTo reasons before 0 before
-  unfolding namesBelow
-  required-none h = record { long = h .long; here = h .none; others = λ j _ _. refl }
-
-  pub required-more : {n : ℕ} {yes : Bool} {u v : List ℕ} → RequiredTo reasons before n u → yes ≡ ltb 0 (getD reasons n 0) → EnteredIf u 6 yes n v
-      → RequiredTo reasons before (n + 1) v
-  unfolding namesBelow if_then_else_
-  required-more {n} {yes} {u} {v} p e q =
-      record { long = q .long; here = rw (add-one n) (next ∙ by (ltb 0 (getD reasons n 0))); others = λ j l o. q .others j l o ∙ p .others j l o }
-    where
-      names : Words
-      names = namesBelow (λ m. ltb 0 (getD reasons m 0)) n
-
-      next : wordsAt v 6 ≡ (if ltb 0 (getD reasons n 0) then add names n else names)
-      next = rw (e, p .here) at (q .here)
-
-      by : (b : Bool) → (if b then add names n else names) ≡ elim b as (λ _. Words) [ true ↦ add names n | false ↦ names ]
-      by true = refl
-      by false = refl
-
-  pub required-end : {n : ℕ} {u : List ℕ} → RequiredTo reasons before n u → n ≡ 256 → Required reasons before u
-  unfolding requiredOf
-  required-end {u = u} p e = record { long = p .long; here = p .here ∙ ap (namesBelow (λ m. ltb 0 (getD reasons m 0))) e; others = p .others }
+-- from a column of zeros on
+pub tally-counts : (ns w : List ℕ) → length w ≡ tableSize → ((n : ℕ) → entryAt w requiredTrivialSet n ≡ 0) → length ns ≤ mostReasons
+    → (n : ℕ) → n < nameCount → entryAt (tally w ns) requiredTrivialSet n ≡ count n ns
+tally-counts ns w long none few n l = tally-is ns w long (λ m. omega (arith, none m)) n l ∙ omega (arith, none n)

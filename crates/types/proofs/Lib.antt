@@ -1,6 +1,4 @@
 pub mod AboutRules
-pub mod Stored
-pub mod Zeroed
 pub mod Walking
 pub mod Showing
 pub mod Naming

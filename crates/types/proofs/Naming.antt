@@ -1,59 +1,28 @@
--- The names of one item more: what enters the sets and the tables of last items at its turn is what the rules say of it.
+-- What is known of the names with one item more: the item's tests by its kind are the rules' (`is-struct` ..), and the columns are entered one after another,
+-- the first c of them with the item and the others still without (`Partly`). With all of them entered, each is that of one item more; and of every column its
+-- set and its items are the rules' (`set-is`, `lasts-is`).
 -- Assumes nothing.
-use Prim.Native.Nat.{ℕ, _+_, _<_}
-use mathlib.Core.Path.{_≡_, refl, _∙_}
+use Prim.Native.Nat.{ℕ, zero, suc, _+_, _≤_, _<_}
+use mathlib.Core.Path.{_≡_, sym, _∙_}
+use mathlib.Core.Logic.{_⊎_, inl, inr}
 use mathlib.Core.Bool.{Bool, true, false, not, _&&_, _||_}
 use mathlib.Core.List.{List}
 use native.Mathlib.Omega.{arith}
-use native.Mathlib.Numerals.{add-one}
-use lib.ListN.{length, set}
-use lib.Dec.{leb, eqb}
-use borrow.Author.Tests.{ltb-true, eq-eqb}
-use Rattle.rules.specs.Base.{if_then_else_}
-use Rattle.rules.specs.Names.{Words, add}
-use Rattle.rules.specs.View.{Struct, Enum, CxxType, RustType, TypeAlias, itemIs, isType, itemName, typeTrusted}
+use lib.ListN.{length, replicate, length-replicate}
+use lib.Dec.{T, eqb, eqb→eq}
+use Rattle.rules.specs.Numbers.{Struct, Enum, CxxType, RustType, TypeAlias, nameCount, mostItems}
+use Rattle.rules.specs.Format.{Accepted}
+use Rattle.rules.specs.View.{typeKind, enumKind, functionKind, items, itemKind, itemIs, isEnumItem, isType, isFunction, itemName, typeTrusted}
 use Rattle.rules.specs.Collect.{namesTo, lastTo, entersStructs, entersEnums, entersCxx, entersRust, entersAliases, entersUntrusted}
-use Rattle.laws.proofs.Accepted.Sheet.{sheet-of}
-use Rattle.names.specs.Table.{Entered}
-use Rattle.types.specs.Named.{EnteredIf, Item, Named, Lasts}
-
--- ## A name is added, or not
-
-pub entered-not : {t : List ℕ} (k n : ℕ) {yes : Bool} → yes ≡ false → length t ≡ 28 → EnteredIf t k yes n t
-unfolding if_then_else_
-entered-not k n e l = rw e (record { long = l; here = refl; others = λ j _ _. refl })
-
-pub entered-if : {t u : List ℕ} (k n : ℕ) {yes : Bool} → yes ≡ true → k < 7 → Entered t k n u → EnteredIf t k yes n u
-unfolding if_then_else_
-entered-if {t} {u} k n e l h =
-    rw e (record { long = h .long; here = rw (eq-eqb k k refl) at (h .sets k l); others = λ j m o. rw o at (h .sets j (ltb-true j 7 m)) })
-
--- ## What a set or a table is one item later
-
-module _ (s : List ℕ) (p : ℕ → Bool) (i : ℕ) where
-  pub names-next : {w w′ : Words} {yes : Bool} {n : ℕ} → w ≡ namesTo s p i → yes ≡ p i → n ≡ itemName s i → w′ ≡ (if yes then add w n else w)
-      → w′ ≡ namesTo s p (i + 1)
-  unfolding namesTo if_then_else_
-  names-next {w} {w′} {yes} {n} e q a h =
-      let g : w′ ≡ (if p i then add (namesTo s p i) (itemName s i) else namesTo s p i) = rw (e, q, a) at h in
-      rw (add-one i) (g ∙ by (p i))
-    where
-      by : (b : Bool) → (if b then add (namesTo s p i) (itemName s i) else namesTo s p i) ≡ elim b as (λ _. Words)
-          [ true ↦ add (namesTo s p i) (itemName s i) | false ↦ namesTo s p i ]
-      by true = refl
-      by false = refl
-
-  pub last-next : {t t′ : List ℕ} {yes : Bool} {n : ℕ} → t ≡ lastTo s p i → yes ≡ p i → n ≡ itemName s i → t′ ≡ (if yes then set t n i else t)
-      → t′ ≡ lastTo s p (i + 1)
-  unfolding lastTo if_then_else_
-  last-next {t} {t′} {yes} {n} e q a h =
-      let g : t′ ≡ (if p i then set (lastTo s p i) (itemName s i) i else lastTo s p i) = rw (e, q, a) at h in
-      rw (add-one i) (g ∙ by (p i))
-    where
-      by : (b : Bool) → (if b then set (lastTo s p i) (itemName s i) i else lastTo s p i) ≡ elim b as (λ _. List ℕ)
-          [ true ↦ set (lastTo s p i) (itemName s i) i | false ↦ lastTo s p i ]
-      by true = refl
-      by false = refl
+use Rattle.laws.proofs.base.Counts.{Eq?, same, other, eq?}
+use Rattle.laws.proofs.base.Tests.{holds, or-cases, and-left}
+use Rattle.laws.proofs.sheet.Accepted.{type-named}
+use Rattle.laws.proofs.sheet.Accepted.Sheet.{sheet-of}
+use Rattle.laws.proofs.names.LastItems.{kind-type}
+use Rattle.names.specs.Known.{columnCount, tableSize, namesIn, lastIn, LastColumn, entered}
+use Rattle.names.proofs.Columns.{entered-long}
+use Rattle.names.proofs.LastColumns.{names-are, lasts-are, column-start, column-skip, column-there, column-here}
+use Rattle.types.specs.Named.{Item, entersColumn, Named}
 
 -- ## The tests by kinds
 
@@ -62,9 +31,9 @@ module _ {s : List ℕ} {i k n : ℕ} (h : Item s i k n) where
   unfolding entersStructs itemIs
   is-struct = rw (h .kind)
 
-  pub is-enum : eqb k Enum ≡ entersEnums s i
-  unfolding entersEnums itemIs
-  is-enum = rw (h .kind)
+  pub is-enum : {b : Bool} → b ≡ enumKind k → b ≡ entersEnums s i
+  unfolding entersEnums isEnumItem
+  is-enum e = rw (h .kind) at e
 
   pub is-cxx : {b : Bool} → b ≡ (eqb k CxxType || eqb k TypeAlias) → b ≡ entersCxx s i
   unfolding entersCxx itemIs
@@ -82,65 +51,94 @@ module _ {s : List ℕ} {i k n : ℕ} (h : Item s i k n) where
   unfolding entersUntrusted itemIs
   is-untrusted e q = rw (h .kind, e) at q
 
-  pub is-type : {b : Bool} → b ≡ ((leb 1 k && leb k 4) || eqb k TypeAlias) → b ≡ isType s i
+  pub is-type : {b : Bool} → b ≡ typeKind k → b ≡ isType s i
   unfolding isType
   is-type e = rw (h .kind) at e
 
-  -- ## One item more
+  pub is-function : {b : Bool} → b ≡ functionKind k → b ≡ isFunction s i
+  unfolding isFunction
+  is-function e = rw (h .kind) at e
 
-  pub named-next : {t u₁ u₂ u₃ u₄ u₅ u₆ : List ℕ} {cxx trusted untrusted : Bool} → Named s i t
-      → EnteredIf t 0 (eqb k 1) n u₁
-      → EnteredIf u₁ 1 (eqb k 2) n u₂
-      → EnteredIf u₂ 2 cxx n u₃
-      → EnteredIf u₃ 3 (eqb k 4) n u₄
-      → EnteredIf u₄ 4 (eqb k 7) n u₅
-      → EnteredIf u₅ 5 untrusted n u₆
-      → cxx ≡ (eqb k 3 || eqb k 7)
-      → trusted ≡ typeTrusted s i
-      → untrusted ≡ (eqb k 3 && not trusted)
-      → Named s (i + 1) u₆
-  named-next a e₁ e₂ e₃ e₄ e₅ e₆ q₃ qₜ q₆ =
-      record {
-        long = e₆ .long;
-        structs =
-            e₆ .others 0 refl refl ∙ e₅ .others 0 refl refl ∙ e₄ .others 0 refl refl ∙ e₃ .others 0 refl refl ∙ e₂ .others 0 refl refl
-            ∙ names-next s (entersStructs s) i (a .structs) is-struct (h .name) (e₁ .here);
-        enums =
-            e₆ .others 1 refl refl ∙ e₅ .others 1 refl refl ∙ e₄ .others 1 refl refl ∙ e₃ .others 1 refl refl
-            ∙ names-next s (entersEnums s) i (e₁ .others 1 refl refl ∙ a .enums) is-enum (h .name) (e₂ .here);
-        cxx =
-            e₆ .others 2 refl refl ∙ e₅ .others 2 refl refl ∙ e₄ .others 2 refl refl
-            ∙ names-next s (entersCxx s) i (e₂ .others 2 refl refl ∙ e₁ .others 2 refl refl ∙ a .cxx) (is-cxx q₃) (h .name) (e₃ .here);
-        rust =
-            e₆ .others 3 refl refl ∙ e₅ .others 3 refl refl
-            ∙ names-next s (entersRust s) i (e₃ .others 3 refl refl ∙ e₂ .others 3 refl refl ∙ e₁ .others 3 refl refl ∙ a .rust) is-rust (h .name) (e₄ .here);
-        aliases =
-            e₆ .others 4 refl refl
-            ∙ names-next s (entersAliases s) i
-            (e₄ .others 4 refl refl ∙ e₃ .others 4 refl refl ∙ e₂ .others 4 refl refl ∙ e₁ .others 4 refl refl ∙ a .aliases) is-alias (h .name)
-            (e₅ .here);
-        untrusted =
-            names-next s (entersUntrusted s) i
-            (e₅ .others 5 refl refl ∙ e₄ .others 5 refl refl ∙ e₃ .others 5 refl refl ∙ e₂ .others 5 refl refl ∙ e₁ .others 5 refl refl ∙ a .untrusted)
-            (is-untrusted qₜ q₆) (h .name) (e₆ .here);
-        trivial = e₆ .others 6 refl refl ∙ e₅ .others 6 refl refl ∙ e₄ .others 6 refl refl ∙ e₃ .others 6 refl refl ∙ e₂ .others 6 refl refl
-            ∙ e₁ .others 6 refl refl ∙ a .trivial;
-      }
+  pub few : i < mostItems
+  few = let f = sheet-of s (h .accepted) .few-items in let b = h .below in omega arith
 
-  pub lasts-next : {a b c a′ b′ c′ : List ℕ} {trusted untrusted type : Bool} → Lasts s i a b c
-      → a′ ≡ (if eqb k 1 then set a n i else a)
-      → b′ ≡ (if untrusted then set b n i else b)
-      → c′ ≡ (if type then set c n i else c)
-      → trusted ≡ typeTrusted s i
-      → untrusted ≡ (eqb k 3 && not trusted)
-      → type ≡ ((leb 1 k && leb k 4) || eqb k 7)
-      → Lasts s (i + 1) a′ b′ c′
-  lasts-next l e₁ e₂ e₃ qₜ q₂ q₃ =
-      record {
-        structs = last-next s (entersStructs s) i (l .structs) is-struct (h .name) e₁;
-        untrusted = last-next s (entersUntrusted s) i (l .untrusted) (is-untrusted qₜ q₂) (h .name) e₂;
-        types = last-next s (isType s) i (l .types) (is-type q₃) (h .name) e₃;
-      }
+-- what enters a column is a type, and so it has a name
+enters-type : (s : List ℕ) (k i : ℕ) → T (entersColumn s k i) → T (isType s i)
+unfolding entersStructs entersEnums isEnumItem entersCxx entersRust entersAliases entersUntrusted itemIs
+enters-type s zero i t = kind-type s Struct tt i (eqb→eq (itemKind s i) Struct t)
+enters-type s (suc zero) i t = kind-type s Enum tt i (eqb→eq (itemKind s i) Enum t)
+enters-type s (suc (suc zero)) i t = by (or-cases (eqb (itemKind s i) CxxType) (eqb (itemKind s i) TypeAlias) t)
+  where
+    by : T (eqb (itemKind s i) CxxType) ⊎ T (eqb (itemKind s i) TypeAlias) → T (isType s i)
+    by (inl u) = kind-type s CxxType tt i (eqb→eq (itemKind s i) CxxType u)
+    by (inr u) = kind-type s TypeAlias tt i (eqb→eq (itemKind s i) TypeAlias u)
+enters-type s (suc (suc (suc zero))) i t = kind-type s RustType tt i (eqb→eq (itemKind s i) RustType t)
+enters-type s (suc (suc (suc (suc zero)))) i t = kind-type s TypeAlias tt i (eqb→eq (itemKind s i) TypeAlias t)
+enters-type s (suc (suc (suc (suc (suc zero))))) i t =
+    kind-type s CxxType tt i (eqb→eq (itemKind s i) CxxType (and-left (eqb (itemKind s i) CxxType) (not (typeTrusted s i)) t))
+enters-type s (suc (suc (suc (suc (suc (suc zero)))))) i t = absurd t
+enters-type s (suc (suc (suc (suc (suc (suc (suc zero))))))) i t = t
+enters-type s (suc (suc (suc (suc (suc (suc (suc (suc k)))))))) i t = absurd t
 
-  pub small : i < 256
-  small = let l = h .below in let f = sheet-of s (h .accepted) .few-items in omega arith
+enters-named : (s : List ℕ) → Accepted s → (k i : ℕ) → i < items s → T (entersColumn s k i) → itemName s i < nameCount
+enters-named s acc k i l t = type-named s acc i l (enters-type s k i t)
+
+-- ## What is known
+
+-- of no items: a table of zeros
+pub named-none : (s : List ℕ) (m : ℕ) → m ≡ tableSize → Named s 0 (replicate m 0)
+named-none s m e = record { long = length-replicate {A = ℕ} m 0 ∙ e; column = λ k l. column-start s (entersColumn s k) m k l }
+
+module _ {s : List ℕ} (acc : Accepted s) {i : ℕ} (l : i ≤ items s) {w : List ℕ} (h : Named s i w) (k : ℕ) (c : k < columnCount) where
+  pub set-is : namesIn w k ≡ namesTo s (entersColumn s k) i
+  set-is =
+      names-are s (entersColumn s k) i (let f = sheet-of s acc .few-items in omega arith) (λ j m t. enters-named s acc k j (omega arith) t) (h .column k c)
+
+  pub lasts-is : lastIn w k ≡ lastTo s (entersColumn s k) i
+  lasts-is = lasts-are (h .column k c)
+
+-- ## One item more
+
+-- the first c columns have item i too
+pub record Partly (s : List ℕ) (i c : ℕ) (w : List ℕ) : Type 0 where
+  pub long : length w ≡ tableSize
+  pub done : (k : ℕ) → k < c → LastColumn s (entersColumn s k) (i + 1) w k
+  pub left : (k : ℕ) → c ≤ k → k < columnCount → LastColumn s (entersColumn s k) i w k
+
+pub enter-first : {s : List ℕ} {i : ℕ} {w : List ℕ} → Named s i w → Partly s i 0 w
+enter-first h = record { long = h .long; done = λ k l. absurd (omega arith); left = λ k _ l. h .column k l }
+
+pub enter-last : {s : List ℕ} {i : ℕ} {w : List ℕ} → Partly s i columnCount w → Named s (i + 1) w
+enter-last h = record { long = h .long; column = h .done }
+
+-- no item enters the column of the reasons
+pub enter-none : {s : List ℕ} {i : ℕ} {w : List ℕ} (c : ℕ) → c < columnCount → entersColumn s c i ≡ false → Partly s i c w → Partly s i (c + 1) w
+enter-none {s} {i} {w} c l e h = record { long = h .long; done = λ k m. go k m (eq? k c); left = λ k m o. h .left k (omega arith) o }
+  where
+    go : (k : ℕ) → k < c + 1 → Eq? k c → LastColumn s (entersColumn s k) (i + 1) w k
+    go k m (same _ q) = rw q (column-skip s (entersColumn s c) i e (h .left c (omega arith) l))
+    go k m (other _ q) = h .done k (omega arith)
+
+-- a column is entered
+pub enter-next : {s : List ℕ} {i k n : ℕ} {w u : List ℕ} {so : Bool} {x : ℕ} (c : ℕ) → c < columnCount → Item s i k n → Partly s i c w
+    → so ≡ entersColumn s c i
+    → x ≡ i + 1
+    → u ≡ entered w c so n x
+    → Partly s i (c + 1) u
+enter-next {s} {i} {k} {n} {w} {u} {so} {x} c l item h e d q =
+    rw (q, d)
+    (record {
+      long = entered-long w c n (i + 1) so ∙ h .long;
+      done = λ j m. go j m (eq? j c);
+      left = λ j m o. there j o (λ t. omega arith) (h .left j (omega arith) o);
+    })
+  where
+    there : (j : ℕ) → j < columnCount → (j ≡ c → ⊥) → {p : ℕ → Bool} {r : ℕ} → LastColumn s p r w j → LastColumn s p r (entered w c so n (i + 1)) j
+    there j o ne {p} {r} a = column-there w (h .long) c l s p r so n (i + 1) j ne o a
+
+    small : so ≡ true → n < nameCount
+    small t = rw (item .name) (enters-named s (item .accepted) c i (item .below) (holds (sym e ∙ t)))
+
+    go : (j : ℕ) → j < c + 1 → Eq? j c → LastColumn s (entersColumn s j) (i + 1) (entered w c so n (i + 1)) j
+    go j m (same _ t) = rw t (column-here w (h .long) c l s (entersColumn s c) i so e n (item .name) small (few item) (h .left c (omega arith) l))
+    go j m (other _ t) = there j (omega arith) t (h .done j (omega arith))

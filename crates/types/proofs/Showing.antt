@@ -11,19 +11,21 @@ use lib.Dec.{eqb}
 use borrow.Author.Tests.{ne-eqb, eqb-true}
 use native.Mathlib.Nat.{le-refl}
 use mathlib.Core.Logic.{_⊎_, inl, inr}
+use Rattle.rules.specs.Numbers.{Struct, Enum, CxxFunction, RustFunction, Impl}
 use Rattle.rules.specs.Base.{over}
 use Rattle.rules.specs.Format.{pairAt, offset, Accepted}
-use Rattle.rules.specs.View.{rows, past, entry, entries, orNothing, Struct, Enum, Impl, items, itemPlace, itemKind, itemIs, isFunction}
+use Rattle.rules.specs.View.{enumKind, functionKind, rows, past, entry, entries, orNothing, items, itemPlace, itemKind, isFunction}
 use Rattle.rules.specs.View.{rest, fields, fieldCount, field, enumRepr, receiverPlace, form, returnPlace, return, argCount, arg, args, implRow}
 use Rattle.rules.specs.Collect.{shownBy}
 use Rattle.rules.specs.Types.{typesOf}
 use Rattle.laws.specs.Skip.{skipVisit, skipTo}
-use Rattle.laws.proofs.Tests.{or-is}
-use Rattle.laws.proofs.Collect.{all-skip}
+use Rattle.laws.proofs.base.Tests.{or-is}
+use Rattle.laws.proofs.sheet.Collect.{all-skip}
 use Rattle.laws.specs.Kinds.{RowOrNone}
-use Rattle.laws.proofs.Accepted.Items.{item-of}
-use Rattle.laws.proofs.Collect.Shown.{shownBy-struct, shownBy-enum, shownBy-function, shownBy-impl, shownBy-other}
-use Rattle.types.specs.Scratch.{rowsOf, Grown, Held, Walks}
+use Rattle.laws.proofs.sheet.Accepted.Items.{item-of}
+use Rattle.laws.proofs.sheet.Collect.Shown.{shownBy-struct, shownBy-enum, shownBy-function, shownBy-impl, shownBy-other}
+use Rattle.scratch.specs.Bytes.{rowsOf, Grown}
+use Rattle.types.specs.Walk.{Held, Walks}
 use Rattle.types.proofs.Walking.{still, wider, further}
 
 -- ## Places
@@ -81,22 +83,27 @@ module _ {s b : List ℕ} {n : ℕ} (i : ℕ) where
       → Walks s b d n bound (shownBy s i) m
   impl-walk p h e l w = rw (shownBy-impl s i (sym p ∙ h), ← e) (wider w (omega arith))
 
-  pub function-shown : {d : List ℕ} {k m bound : ℕ} {t : Bool} → k ≡ itemKind s i → t ≡ (eqb k 5 || eqb k 6) → t ≡ true
+  pub function-shown : {d : List ℕ} {k m bound : ℕ} {t : Bool} → k ≡ itemKind s i → t ≡ functionKind k → t ≡ true
       → Walks s b d n bound (args s i ++ orNothing (return s i)) m → Walks s b d n bound (shownBy s i) m
   function-shown p q h w = rw (shownBy-function s i (kinds p (or-is _ _ (sym q ∙ h)))) w
     where
-      kinds : {k : ℕ} → k ≡ itemKind s i → (eqb k 5 ≡ true) ⊎ (eqb k 6 ≡ true) → (itemKind s i ≡ 5) ⊎ (itemKind s i ≡ 6)
-      kinds {k} e (inl t) = inl (sym e ∙ eqb-true k 5 t)
-      kinds {k} e (inr t) = inr (sym e ∙ eqb-true k 6 t)
+      kinds : {k : ℕ} → k ≡ itemKind s i → (eqb k CxxFunction ≡ true) ⊎ (eqb k RustFunction ≡ true)
+          → (itemKind s i ≡ CxxFunction) ⊎ (itemKind s i ≡ RustFunction)
+      kinds {k} e (inl t) = inl (sym e ∙ eqb-true k CxxFunction t)
+      kinds {k} e (inr t) = inr (sym e ∙ eqb-true k RustFunction t)
 
-  pub none-shown : {k bound : ℕ} {t : Bool} → Held s b n → k ≡ itemKind s i → (k ≡ 1 → ⊥) → (k ≡ 2 → ⊥) → t ≡ (eqb k 5 || eqb k 6) → t ≡ false → (k ≡ 8 → ⊥)
-      → Walks s b b n bound (shownBy s i) n
-  none-shown {k} h p a e q f g =
-      let u : (eqb k 5 || eqb k 6) ≡ false = sym q ∙ f in
-      rw (shownBy-other s i k (rw (ne-eqb k 1 a, ne-eqb k 2 e, u, ne-eqb k 8 g) refl) (sym p)) (still (h .held))
+  pub none-shown : {k bound : ℕ} {u t : Bool} → Held s b n → k ≡ itemKind s i → (k ≡ Struct → ⊥) → u ≡ enumKind k → u ≡ false → t ≡ functionKind k → t ≡ false
+      → (k ≡ Impl → ⊥) → Walks s b b n bound (shownBy s i) n
+  none-shown {k} h p a e o q f g =
+      let v : eqb k Enum ≡ false = sym e ∙ o in
+      let u : (eqb k CxxFunction || eqb k RustFunction) ≡ false = sym q ∙ f in
+      rw (shownBy-other s i k (rw (ne-eqb k Struct a, v, u, ne-eqb k Impl g) refl) (sym p)) (still (h .held))
 
-pub is-function : (s : List ℕ) (i : ℕ) {k : ℕ} {t : Bool} → k ≡ itemKind s i → t ≡ (eqb k 5 || eqb k 6) → t ≡ true → isFunction s i ≡ true
-unfolding isFunction itemIs
+pub is-enum : {k : ℕ} {t : Bool} → t ≡ enumKind k → t ≡ true → k ≡ Enum
+is-enum {k} q h = eqb-true k Enum (sym q ∙ h)
+
+pub is-function : (s : List ℕ) (i : ℕ) {k : ℕ} {t : Bool} → k ≡ itemKind s i → t ≡ functionKind k → t ≡ true → isFunction s i ≡ true
+unfolding isFunction
 is-function s i e q h = rw (← e) (sym q ∙ h)
 
 -- ## The whole sheet

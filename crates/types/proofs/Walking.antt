@@ -9,28 +9,30 @@ use native.Mathlib.Numerals.{add-one}
 use lib.ListN.{length}
 use borrow.Author.Tests.{eq-eqb, ne-eqb}
 use mathlib.Core.Logic.{inl, inr}
+use Rattle.rules.specs.Numbers.{Fn, mostRows, noRow}
 use Rattle.rules.specs.Base.{if_then_else_, over}
 use Rattle.rules.specs.Format.{pairAt, offset, Accepted}
-use Rattle.rules.specs.View.{Fn, rows, kind, inner, fnArgs, fnArgCount, fnArg, shown, entry, entries, orNothing}
+use Rattle.rules.specs.View.{rows, kind, inner, fnArgs, fnArgCount, fnArg, shown, entry, entries, orNothing}
 use Rattle.laws.specs.Skip.{skipVisit}
-use Rattle.laws.proofs.Accepted.Sheet.{sheet-of}
+use Rattle.laws.proofs.sheet.Accepted.Sheet.{sheet-of}
 use Rattle.laws.specs.Kinds.{leaf, RowOrNone}
-use Rattle.laws.proofs.Accepted.Rows.{RowOf}
-use Rattle.laws.proofs.Members.{in-head}
-use Rattle.laws.proofs.Collect.Shown.{shown-inner, shown-falls}
-use Rattle.types.specs.Scratch.{rowsOf, marked, Holds, Grown, Held, Ready, Walks}
-use Rattle.types.proofs.Stored.{holds-self}
+use Rattle.laws.proofs.sheet.Accepted.Rows.{RowOf}
+use Rattle.laws.proofs.base.Members.{in-head}
+use Rattle.laws.proofs.sheet.Collect.Shown.{shown-inner, shown-falls}
+use Rattle.scratch.specs.Bytes.{rowsOf, marked, HoldsRows, Grown}
+use Rattle.types.specs.Walk.{Held, Walkable, Walks}
+use Rattle.scratch.proofs.Stored.{holds-self}
 
 -- ## Steps
 
-pub few : {s b : List ℕ} {n row : ℕ} → Ready s b n row → row < 1024
+pub few : {s b : List ℕ} {n row : ℕ} → Walkable s b n row → row < mostRows
 few {s} h = let a = sheet-of s (h .walk .accepted) .few-rows in let l = h .below in omega arith
 
-pub held-next : {s b d : List ℕ} {n m : ℕ} {all : List ℕ} → Held s b n → Holds d m all → length d ≡ length b → Held s d m
+pub held-next : {s b d : List ℕ} {n m : ℕ} {all : List ℕ} → Held s b n → HoldsRows d m all → length d ≡ length b → Held s d m
 held-next h g e = record { accepted = h .accepted; long = (let k = h .long in omega arith); held = holds-self g }
 
 module _ {s b : List ℕ} {n : ℕ} where
-  pub still : {all : List ℕ} {bound : ℕ} → Holds b n all → Walks s b b n bound [] n
+  pub still : {all : List ℕ} {bound : ℕ} → HoldsRows b n all → Walks s b b n bound [] n
   still h = record { grown = λ f l. record { held = holds-self h; kept = λ i _. refl } }
 
   pub wider : {d l : List ℕ} {m k bound : ℕ} → Walks s b d n k l m → k ≤ bound → Walks s b d n bound l m
@@ -47,7 +49,7 @@ module _ {s b : List ℕ} {n : ℕ} where
 
   -- ## One row
 
-  pub old : {row : ℕ} → Ready s b n row → marked b row ≡ true → Walks s b b n (suc row) (row ∷ []) n
+  pub old : {row : ℕ} → Walkable s b n row → marked b row ≡ true → Walks s b b n (suc row) (row ∷ []) n
   unfolding skipVisit
   old {row} h e = record { grown = by }
     where
@@ -55,7 +57,7 @@ module _ {s b : List ℕ} {n : ℕ} where
       by zero l = absurd (omega arith)
       by (suc f) l = rw (sym (h .walk .held .marks row (few h)) ∙ e, skipVisit) (record { held = h .walk .held; kept = λ i _. refl })
 
-  pub new : {d e l : List ℕ} {row m r : ℕ} → Ready s b n row → marked b row ≡ false → Grown b d m (rowsOf b n ++ row ∷ []) → shown s row ≡ l
+  pub new : {d e l : List ℕ} {row m r : ℕ} → Walkable s b n row → marked b row ≡ false → Grown b d m (rowsOf b n ++ row ∷ []) → shown s row ≡ l
       → Walks s d e m row l r
       → Walks s b e n (suc row) (row ∷ []) r
   unfolding skipVisit
@@ -69,20 +71,20 @@ module _ {s b : List ℕ} {n : ℕ} where
 
   -- ## A row or none, and a list of rows
 
-  pub none : {x bound : ℕ} → Held s b n → x ≡ 65535 → Walks s b b n bound (orNothing x) n
+  pub none : {x bound : ℕ} → Held s b n → x ≡ noRow → Walks s b b n bound (orNothing x) n
   unfolding orNothing if_then_else_
-  none {x} h e = rw (eq-eqb x 65535 e) (still (h .held))
+  none {x} h e = rw (eq-eqb x noRow e) (still (h .held))
 
-  pub one : {d : List ℕ} {x m bound : ℕ} → (x ≡ 65535 → ⊥) → x < bound → Walks s b d n (suc x) (x ∷ []) m → Walks s b d n bound (orNothing x) m
+  pub one : {d : List ℕ} {x m bound : ℕ} → (x ≡ noRow → ⊥) → x < bound → Walks s b d n (suc x) (x ∷ []) m → Walks s b d n bound (orNothing x) m
   unfolding orNothing if_then_else_
-  one {x = x} h l w = rw (ne-eqb x 65535 h) (wider w (omega arith))
+  one {x = x} h l w = rw (ne-eqb x noRow h) (wider w (omega arith))
 
 -- the first j rows of a list
 abbrev pub firstRows : (s : List ℕ) (at j : ℕ) → List ℕ
 firstRows s at j = over j (λ k. entry s at k ∷ [])
 
 module _ {s b : List ℕ} {n : ℕ} (at : ℕ) where
-  pub to-none : {all : List ℕ} {bound : ℕ} → Holds b n all → Walks s b b n bound (firstRows s at 0) n
+  pub to-none : {all : List ℕ} {bound : ℕ} → HoldsRows b n all → Walks s b b n bound (firstRows s at 0) n
   unfolding over
   to-none h = still h
 
@@ -96,17 +98,17 @@ module _ {s b : List ℕ} {n : ℕ} (at : ℕ) where
   unfolding entries
   to-end j w q = rw (← q) w
 
-pub not-none : {limit x : ℕ} → RowOrNone limit x → (x ≡ 65535 → ⊥) → x < limit
+pub not-none : {limit x : ℕ} → RowOrNone limit x → (x ≡ noRow → ⊥) → x < limit
 not-none (inl e) h = absurd (h e)
 not-none (inr l) h = l
 
 -- ## A row that is no leaf and no Fn shows the row inside
 
 module _ (s : List ℕ) where
-  pub shown-one : (row : ℕ) {k : ℕ} → k ≡ kind s row → leaf k ≡ false → (k ≡ 12 → ⊥) → shown s row ≡ inner s row ∷ []
-  shown-one row {k} e h g = shown-inner s row k h (ne-eqb k 12 g) (sym e)
+  pub shown-one : (row : ℕ) {k : ℕ} → k ≡ kind s row → leaf k ≡ false → (k ≡ Fn → ⊥) → shown s row ≡ inner s row ∷ []
+  shown-one row {k} e h g = shown-inner s row k h (ne-eqb k Fn g) (sym e)
 
-  pub inner-less : Accepted s → (row : ℕ) → row < rows s → {k : ℕ} → k ≡ kind s row → leaf k ≡ false → (k ≡ 12 → ⊥) → inner s row < row
+  pub inner-less : Accepted s → (row : ℕ) → row < rows s → {k : ℕ} → k ≡ kind s row → leaf k ≡ false → (k ≡ Fn → ⊥) → inner s row < row
   inner-less acc row l e h g = shown-falls s acc row l (inner s row) (rw (shown-one row e h g) (in-head (inner s row) []))
 
   -- ## The arguments of an Fn stand in a list behind its return

@@ -1,135 +1,155 @@
--- The whole of `collect`: the cleared scratch to begin with, the tables to begin with, and that what the parts leave is what the rules say of the sheet.
+-- The whole of `collect`: the cleared scratch and the table of zeros to begin with, and that what the parts leave is what the rules say of the sheet.
 -- Assumes nothing.
-use Prim.Native.Nat.{ℕ, _+_, _*_, _/_, _-_}
+use Prim.Native.Nat.{ℕ, _*_, _<_}
 use mathlib.Core.Path.{_≡_, refl, sym, ap, _∙_}
-use mathlib.Core.List.{List, [], _++_}
+use mathlib.Core.Bool.{Bool, false, _&&_}
+use mathlib.Core.List.{List, _++_}
 use native.Mathlib.Omega.{arith}
-use native.Mathlib.Nat.{zero-div}
-use lib.ListN.{length, getD, drop, replicate, length-drop}
-use lib.Seq.{getD-drop, ext-getD}
-use Rattle.rules.specs.Base.{if_then_else_, over, anyOf}
+use native.Mathlib.Decide.{decLt}
+use native.Mathlib.Nat.{le-refl}
+use lib.ListN.{length, getD, drop}
+use lib.Seq.{ext-getD}
+use lib.Dec.{ltb}
+use borrow.Author.Tests.{lt-ltb}
+use Rattle.rules.specs.Numbers.{nameCount, structSet, enumSet, cxxSet, rustSet, aliasSet, untrustedSet, requiredTrivialSet}
+use Rattle.rules.specs.Base.{if_then_else_, over}
+use Rattle.rules.specs.Count.{count}
 use Rattle.rules.specs.Format.{pairAt, Accepted}
-use Rattle.rules.specs.Names.{Words, bitOf}
 use Rattle.rules.specs.View.{items}
-use Rattle.rules.specs.Collect.{namesTo, lastTo, entersStructs, entersEnums, collectedTo}
-use Rattle.rules.specs.Trivial.{reasonsOfItem, reasonsOfRow, reasonNames, reasonsOf, requiredOf}
-use Rattle.rules.specs.Types.{typesOf}
+use Rattle.rules.specs.Collect.{namesTo, lastTo}
+use Rattle.rules.specs.Trivial.{externIn, reasonsOfItem, reasonsOfRow, reasonNames, requiredOf}
+use Rattle.rules.specs.Types.{typesOf, isExtern}
 use Rattle.rules.specs.Answer.{cleared}
-use Rattle.laws.specs.Skip.{seen}
-use Rattle.laws.proofs.Counts.{free-le}
-use Rattle.laws.proofs.Collect.{all-few}
-use Rattle.laws.proofs.Bounds.Reasons.{names-few}
-use Rattle.names.specs.Table.{wordAt, wordsAt}
+use Rattle.laws.proofs.sheet.Collect.{all-few}
+use Rattle.laws.proofs.report.Bounds.Reasons.{names-few, reasons-length, reasons-are}
+use Rattle.laws.proofs.names.LastItems.{Last, no-one, last, last-is}
+use Rattle.laws.proofs.base.Lists.{over-length}
+use Rattle.laws.proofs.names.Sets.{set-same, below-set, below-is}
+use Rattle.names.specs.Known.{typeColumn, columnCount, tableSize, entryAt, entryOf, namesIn, lastIn, countsIn, tabled}
+use Rattle.names.proofs.Columns.{entry-out, has-is, count-is, column-same, last-same}
+use Rattle.scratch.specs.Bytes.{marksEnd, rowsOf, Grown}
+use Rattle.scratch.proofs.Zeroed.{cleared-length}
+use Rattle.scratch.proofs.Stored.{holds-none, holds-length, holds-row, rest-kept}
 use Rattle.errors.specs.declared.Errors.{Errors}
-use Rattle.types.specs.Scratch.{rowsOf, marked, Holds, Grown, Held}
-use Rattle.types.specs.Named.{Named, ReadyTables, Declared}
-use Rattle.types.specs.Reasons.{countAll, Counted, ofItem, ofRow, Required}
+use Rattle.types.specs.Walk.{Held}
+use Rattle.types.specs.Named.{entersColumn, Named, Nameable, Declared}
+use Rattle.types.specs.Reasons.{tally, Tallied, ofAll}
 use Rattle.types.specs.Post.{Collectable, Collects}
 use Rattle.types.proofs.AboutRules.{over-same}
-use Rattle.types.proofs.Zeroed.{cleared-length, cleared-at}
-use Rattle.types.proofs.Stored.{holds-length, holds-row}
-use Rattle.types.proofs.Counting.{count-reasons}
+use Rattle.types.proofs.Naming.{named-none, set-is, lasts-is}
+use Rattle.types.proofs.Counting.{tally-other, tally-counts}
 
 -- ## The start
 
--- a cleared scratch holds no rows
-holds-none : (b : List ℕ) → Holds (cleared b) 0 []
-unfolding rowsOf over marked bitOf seen anyOf
-holds-none b =
-    record {
-      are = refl;
-      marks = λ r l. rw (cleared-at b (2048 + r / 8) (omega arith), zero-div) refl;
-      room = (let l = free-le 1024 (seen []) in omega arith);
-    }
-
-pub held-none : {s b d : List ℕ} → Collectable s b → d ≡ cleared b → Held s d 0
+pub held-none : {s b w d : List ℕ} → Collectable s b w → d ≡ cleared b → Held s d 0
 unfolding rowsOf over
 held-none {s} {b} h e = rw e (record { accepted = h .accepted; long = (let l = h .long in omega (arith, cleared-length b l)); held = holds-none b })
 
--- the tables of no items
-pub tables-none : {s : List ℕ} → Accepted s → ReadyTables s (replicate 28 0) (replicate 256 255) (replicate 256 255) (replicate 256 255)
-unfolding wordsAt wordAt if_then_else_ namesTo lastTo
-tables-none acc =
-    record {
-      accepted = acc;
-      sets = record { long = refl; structs = refl; enums = refl; cxx = refl; rust = refl; aliases = refl; untrusted = refl; trivial = refl };
-      last = record { structs = refl; untrusted = refl; types = refl };
-    }
+pub named-start : {s b w : List ℕ} → Collectable s b w → Nameable s w
+named-start {s} h = record { accepted = h .accepted; names = rw (h .zeros) (named-none s tableSize refl) }
 
 -- ## The reasons
 
--- the reasons of items and of the rows that d holds, by any three sets
-abbrev namesBy : (s d : List ℕ) (m : ℕ) (structs enums cxx : Words) → List ℕ
-namesBy s d m x y z = over (items s) (reasonsOfItem s x y z) ++ over m (λ k. reasonsOfRow s x y z (pairAt d (2 * k)))
+-- a column with the counts of a table has the names with a count
+required-is : (w t : List ℕ) (k : ℕ) → ((n : ℕ) → n < nameCount → entryAt w k n ≡ getD t n 0) → namesIn w k ≡ requiredOf t
+unfolding namesIn requiredOf
+required-is w t k h =
+    set-same (namesIn w k) (requiredOf t) (below-set (λ n. ltb 0 (entryAt w k n)) nameCount) (below-set test nameCount)
+    (λ n l. has-is w k n ∙ ap (ltb 0) (h n l) ∙ sym (below-is test nameCount n (le-refl nameCount) ∙ ap (λ b. b && test n) (lt-ltb n nameCount l)))
+  where
+    test : ℕ → Bool
+    test n = ltb 0 (getD t n 0)
 
-module _ {s b d : List ℕ} {m : ℕ} (acc : Accepted s) (grown : Grown b d m (typesOf s .all)) where
-  names-are : (x y z : Words) → namesBy s d m x y z ≡ reasonNames s x y z (typesOf s .all)
+-- and its counts are the table
+counts-are : (w t : List ℕ) (k : ℕ) → length t ≡ nameCount → ((n : ℕ) → n < nameCount → entryAt w k n ≡ getD t n 0) → countsIn w k ≡ t
+unfolding countsIn
+counts-are w t k e h = ext-getD 0 (countsIn w k) t (size ∙ sym e) (λ n l. count-is w k n ∙ h n (omega (arith, size)))
+  where
+    size : length (countsIn w k) ≡ nameCount
+    size = over-length (λ n. entryAt w k n) nameCount
+
+-- no item enters the column of the reasons
+none-yet : {s : List ℕ} {i : ℕ} {w : List ℕ} → Named s i w → (n : ℕ) → entryAt w requiredTrivialSet n ≡ 0
+unfolding if_then_else_
+none-yet {s} {i} {w} h n = go (decLt n nameCount)
+  where
+    none : {r : ℕ} → Last s (λ _. false) i n r → entryOf r ≡ 0
+    none (no-one f) = refl
+    none (last l t e f) = absurd t
+
+    go : Dec (n < nameCount) → entryAt w requiredTrivialSet n ≡ 0
+    go (yes l) = h .column requiredTrivialSet (omega arith) .at n l ∙ none (last-is s (λ _. false) i n l)
+    go (no l) = entry-out w requiredTrivialSet n (omega arith)
+
+module _ {s b d : List ℕ} {m : ℕ} (acc : Accepted s) (grown : Grown b d m (typesOf s .all)) {w : List ℕ} (named : Named s (items s) w) where
+  names-by : (f : ℕ → Bool) → over (items s) (reasonsOfItem s f) ++ over m (λ k. reasonsOfRow s f (pairAt d (2 * k))) ≡ reasonNames s f (typesOf s .all)
   unfolding reasonNames
-  names-are x y z =
+  names-by f =
       let e : m ≡ length (typesOf s .all) = holds-length (grown .held) in
       rw (← e)
-      (ap (λ (l : List ℕ). over (items s) (reasonsOfItem s x y z) ++ l)
-      (over-same m (λ k. reasonsOfRow s x y z (pairAt d (2 * k))) (λ k. reasonsOfRow s x y z (getD (typesOf s .all) k 0))
-      (λ k l. ap (reasonsOfRow s x y z) (holds-row (grown .held) k l))))
+      (ap (λ (l : List ℕ). over (items s) (reasonsOfItem s f) ++ l)
+      (over-same m (λ k. reasonsOfRow s f (pairAt d (2 * k))) (λ k. reasonsOfRow s f (getD (typesOf s .all) k 0))
+      (λ k l. ap (reasonsOfRow s f) (holds-row (grown .held) k l))))
 
-  reasons-by : (x y z : Words) {t : List ℕ} → Counted (replicate 256 0) (namesBy s d m x y z) t → t ≡ reasonsOf (reasonNames s x y z (typesOf s .all))
-  reasons-by x y z h =
-      let few = names-few s x y z acc (typesOf s .all) (all-few s acc) in
-      h .is ∙ ap (countAll (replicate 256 0)) (names-are x y z) ∙ count-reasons (reasonNames s x y z (typesOf s .all)) (omega arith)
+  set-of : (k : ℕ) → k < columnCount → namesIn w k ≡ namesTo s (entersColumn s k) (items s)
+  set-of k c = set-is acc (le-refl (items s)) named k c
 
-  pub reasons-are : {sets t : List ℕ} → Named s (items s) sets
-      → Counted (replicate 256 0) (over (items s) (ofItem s sets) ++ over m (λ k. ofRow s sets (pairAt d (2 * k)))) t
-      → t ≡ typesOf s .reasons
+  extern-is : isExtern (tabled s w) ≡ externIn (typesOf s .structs) (typesOf s .enums) (typesOf s .cxx)
+  unfolding isExtern tabled typesOf
+  extern-is = rw (set-of structSet (omega arith), set-of enumSet (omega arith), set-of cxxSet (omega arith)) refl
+
+  -- after the tally each name has its count
+  counted : {u : List ℕ} → Tallied w (ofAll s w d m) u → (n : ℕ) → n < nameCount → entryAt u requiredTrivialSet n ≡ getD (typesOf s .reasons) n 0
   unfolding typesOf
-  reasons-are {sets} named h =
-      reasons-by (wordsAt sets 0) (wordsAt sets 1) (wordsAt sets 2) h
-      ∙ ap (λ (x : Words). reasonsOf (reasonNames s x (wordsAt sets 1) (wordsAt sets 2) (collectedTo s (items s)))) (named .structs)
-      ∙ ap (λ (y : Words). reasonsOf (reasonNames s (namesTo s (entersStructs s) (items s)) y (wordsAt sets 2) (collectedTo s (items s)))) (named .enums)
-      ∙ ap (λ (z : Words). reasonsOf
-      (reasonNames s (namesTo s (entersStructs s) (items s)) (namesTo s (entersEnums s) (items s)) z (collectedTo s (items s)))) (named .cxx)
+  counted {u} h n l =
+      let f = externIn (typesOf s .structs) (typesOf s .enums) (typesOf s .cxx) in
+      let ns = reasonNames s f (typesOf s .all) in
+      let few = names-few s f acc (typesOf s .all) (all-few s acc) in
+      let is : u ≡ tally w ns = h .is ∙ ap (tally w) (names-by (isExtern (tabled s w)) ∙ ap (λ (g : ℕ → Bool). reasonNames s g (typesOf s .all)) extern-is) in
+      rw is (tally-counts ns w (named .long) (none-yet named) (omega arith) n l ∙ sym (reasons-are ns n l))
 
--- ## The scratch at the end
+  -- and all is known
+  pub known : {u : List ℕ} → Tallied w (ofAll s w d m) u → tabled s u ≡ typesOf s
+  unfolding tabled typesOf
+  known {u} h =
+      rw (
+        kept structSet (λ e. omega arith) (omega arith) ∙ set-of structSet (omega arith),
+        kept enumSet (λ e. omega arith) (omega arith) ∙ set-of enumSet (omega arith),
+        kept cxxSet (λ e. omega arith) (omega arith) ∙ set-of cxxSet (omega arith),
+        kept rustSet (λ e. omega arith) (omega arith) ∙ set-of rustSet (omega arith),
+        kept aliasSet (λ e. omega arith) (omega arith) ∙ set-of aliasSet (omega arith),
+        kept untrustedSet (λ e. omega arith) (omega arith) ∙ set-of untrustedSet (omega arith),
+        counts-are u (typesOf s .reasons) requiredTrivialSet (reasons-length _) (counted h),
+        required-is u (typesOf s .reasons) requiredTrivialSet (counted h),
+        last-of structSet (λ e. omega arith) (omega arith),
+        last-of untrustedSet (λ e. omega arith) (omega arith),
+        last-of typeColumn (λ e. omega arith) (omega arith),
+      ) refl
+    where
+      entries : (k : ℕ) → (k ≡ requiredTrivialSet → ⊥) → k < columnCount → (n : ℕ) → n < nameCount → entryAt u k n ≡ entryAt w k n
+      entries k ne c n l = ap (λ (v : List ℕ). entryAt v k n) (h .is) ∙ tally-other (ofAll s w d m) w k n ne c l
 
-pub rest-kept : {b d : List ℕ} {m : ℕ} {all : List ℕ} → Grown b d m all → length d ≡ length b → drop 2176 d ≡ drop 2176 b
-rest-kept {b} {d} g e =
-    ext-getD 0 (drop 2176 d) (drop 2176 b) (length-drop 2176 d ∙ ap (λ n. n - 2176) e ∙ sym (length-drop 2176 b))
-    (λ i l. getD-drop 2176 d i 0 ∙ g .kept (2176 + i) (omega arith) ∙ sym (getD-drop 2176 b i 0))
+      kept : (k : ℕ) → (k ≡ requiredTrivialSet → ⊥) → k < columnCount → namesIn u k ≡ namesIn w k
+      kept k ne c = column-same u w k (entries k ne c)
+
+      last-of : (k : ℕ) → (k ≡ requiredTrivialSet → ⊥) → k < columnCount → lastIn u k ≡ lastTo s (entersColumn s k) (items s)
+      last-of k ne c = last-same u w k (entries k ne c) ∙ lasts-is acc (le-refl (items s)) named k c
 
 -- ## All together
 
-pub whole : {s b e d out out′ : List ℕ} {cx cx′ : Errors} {m : ℕ} {sets a u t reasons sets′ : List ℕ} → Collectable s b → e ≡ cleared b
-    → Grown e d m (typesOf s .all)
+pub whole : {s b w e d out out′ : List ℕ} {cx cx′ : Errors} {m : ℕ} {v u : List ℕ} → Collectable s b w → e ≡ cleared b → Grown e d m (typesOf s .all)
     → length d ≡ length e
-    → Declared s sets a u t out cx out′ cx′
-    → Counted (replicate 256 0) (over (items s) (ofItem s sets) ++ over m (λ k. ofRow s sets (pairAt d (2 * k)))) reasons
-    → Required reasons sets sets′
-    → Collects s b d out out′ cx (record {
-      types = record { sets = sets′; «last_struct» = a; «last_untrusted» = u; «last_type» = t; reasons = reasons; rows = m };
-      errors = cx′;
-    })
-unfolding typesOf
-whole {s} {b} {m = m} h c g l n r q =
-    let counted : _ ≡ typesOf s .reasons = reasons-are (h .accepted) g (n .sets) r in
+    → Declared s v out cx out′ cx′
+    → Tallied v (ofAll s v d m) u
+    → Collects s b d u out out′ cx (record { rows = m; errors = cx′ })
+whole {s} {b} {m = m} h c g l n t =
     let few : m ≡ length (typesOf s .all) = holds-length (g .held) in
     record {
-      types = record {
-        long = q .long;
-        structs = q .others 0 refl refl ∙ n .sets .structs;
-        enums = q .others 1 refl refl ∙ n .sets .enums;
-        cxx = q .others 2 refl refl ∙ n .sets .cxx;
-        rust = q .others 3 refl refl ∙ n .sets .rust;
-        aliases = q .others 4 refl refl ∙ n .sets .aliases;
-        untrusted = q .others 5 refl refl ∙ n .sets .untrusted;
-        requiredTrivial = q .here ∙ ap requiredOf counted;
-        lastStruct = n .last .structs;
-        lastUntrusted = n .last .untrusted;
-        lastType = n .last .types;
-        reasons = counted;
-        rows = few;
-      };
+      known = known (h .accepted) g (n .names) t;
+      count = few;
       rows = λ k p. holds-row (g .held) k (omega arith);
       marks = g .held .marks;
       same = l ∙ ap length c ∙ cleared-length b (h .long);
-      rest = rest-kept g l ∙ ap (drop 2176) c;
+      rest = rest-kept g l ∙ ap (drop marksEnd) c;
       errors = n .reported;
     }

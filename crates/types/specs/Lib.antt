@@ -1,4 +1,4 @@
-pub mod Scratch
+pub mod Walk
 pub mod Named
 pub mod Reasons
 pub mod Post

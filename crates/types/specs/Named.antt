@@ -1,26 +1,27 @@
--- The names that the items before item i declared: in sets, in tables of last items, and the functions in one table of bits.
+-- What the items before item i made known of the names, in the table of crate names, and of the functions, in one table of bits.
 -- Assumes nothing: these are definitions.
 use Prim.Native.Nat.{ℕ, zero, suc, _+_, _*_, _<_}
 use mathlib.Core.Path.{_≡_}
 use mathlib.Core.Bool.{Bool, true, false, not, _&&_}
-use mathlib.Core.List.{List}
-use lib.ListN.{length, replicate}
-use lib.Dec.{ltb, eqb}
-use Rattle.rules.specs.declared.NameSet.{NameSet}
+use mathlib.Core.List.{List, [], _∷_}
+use lib.ListN.{length, getD, replicate}
+use lib.Dec.{eqb}
+use Rattle.rules.specs.Numbers.{nameSelf, nameCount}
 use Rattle.rules.specs.Base.{if_then_else_}
 use Rattle.rules.specs.Format.{Accepted}
-use Rattle.rules.specs.Names.{Words, empty, add, nameSelf}
+use Rattle.rules.specs.Names.{Words, add}
 use Rattle.rules.specs.View.{items, itemKind, isType, isFunction, itemName, isFree, selfType}
-use Rattle.rules.specs.Collect.{namesTo, lastTo, entersStructs, entersEnums, entersCxx, entersRust, entersAliases, entersUntrusted, duplicates}
-use Rattle.names.specs.Table.{wordsAt}
+use Rattle.rules.specs.Collect.{entersStructs, entersEnums, entersCxx, entersRust, entersAliases, entersUntrusted, duplicates}
+use Rattle.names.specs.Known.{columnCount, tableSize, LastColumn}
 use Rattle.errors.specs.declared.Errors.{Errors}
 use Rattle.errors.specs.Sink.{Reported}
 
--- `after` is `before` with name n added to set k, if so, and all other sets as they were
-pub record EnteredIf (before : List ℕ) (k : ℕ) (yes : Bool) (n : ℕ) (after : List ℕ) : Type 0 where
-  pub long : length after ≡ 28
-  pub here : wordsAt after k ≡ (if yes then add (wordsAt before k) n else wordsAt before k)
-  pub others : (j : ℕ) → ltb j 7 ≡ true → eqb j k ≡ false → wordsAt after j ≡ wordsAt before j
+-- the functions have a bit for each self type, or none, and each name: so many bits, and so many words
+abbrev pub keyCount : ℕ
+keyCount = nameCount * (nameCount + 1)
+
+abbrev pub keyWords : ℕ
+keyWords = 1028
 
 module _ (s : List ℕ) where
   -- item i of an accepted sheet, with its kind and its name
@@ -30,26 +31,20 @@ module _ (s : List ℕ) where
     pub kind : k ≡ itemKind s i
     pub name : n ≡ itemName s i
 
-  -- ## The sets, and the last items
+  -- ## The names
 
-  pub record Named (i : ℕ) (t : List ℕ) : Type 0 where
-    pub long : length t ≡ 28
-    pub structs : wordsAt t 0 ≡ namesTo s (entersStructs s) i
-    pub enums : wordsAt t 1 ≡ namesTo s (entersEnums s) i
-    pub cxx : wordsAt t 2 ≡ namesTo s (entersCxx s) i
-    pub rust : wordsAt t 3 ≡ namesTo s (entersRust s) i
-    pub aliases : wordsAt t 4 ≡ namesTo s (entersAliases s) i
-    pub untrusted : wordsAt t 5 ≡ namesTo s (entersUntrusted s) i
-    pub trivial : wordsAt t 6 ≡ empty
+  -- which items enter column k: the six sets of items, none for the reasons, and the types
+  abbrev pub entersColumn : (k : ℕ) → ℕ → Bool
+  entersColumn k =
+      getD
+      (entersStructs s ∷ entersEnums s ∷ entersCxx s ∷ entersRust s ∷ entersAliases s ∷ entersUntrusted s ∷ (λ _. false) ∷ isType s ∷ [])
+      k
+      (λ _. false)
 
-  pub record Lasts (i : ℕ) (a b c : List ℕ) : Type 0 where
-    pub structs : a ≡ lastTo s (entersStructs s) i
-    pub untrusted : b ≡ lastTo s (entersUntrusted s) i
-    pub types : c ≡ lastTo s (isType s) i
-
-  -- all names of types
-  abbrev pub Known : (i : ℕ) → NameSet → Type 0
-  Known i names = names .words ≡ namesTo s (isType s) i
+  -- each column has the last of the first i items that enter it, for each name
+  pub record Named (i : ℕ) (w : List ℕ) : Type 0 where
+    pub long : length w ≡ tableSize
+    pub column : (k : ℕ) → k < columnCount → LastColumn s (entersColumn k) i w k
 
   -- ## The functions
 
@@ -57,63 +52,58 @@ module _ (s : List ℕ) where
   unfoldable pub ofSelf : ℕ → Bool
   ofSelf i = not (isFree s i) && eqb (selfType s i) nameSelf
 
-  -- a bit for each self type and name; 256 stands for no self type
+  -- a bit for each self type and name; the number of names stands for no self type
   unfoldable pub keyOf : ℕ → ℕ
-  keyOf i = 256 * (if isFree s i then 256 else selfType s i) + itemName s i
+  keyOf i = nameCount * (if isFree s i then nameCount else selfType s i) + itemName s i
 
   unfoldable pub entersKeys : ℕ → Bool
   entersKeys i = isFunction s i && not (ofSelf i)
 
   unfoldable pub keysTo : (i : ℕ) → Words
-  keysTo zero = replicate 1028 0
+  keysTo zero = replicate keyWords 0
   keysTo (suc i) = let w = keysTo i in elim (entersKeys i) [ true ↦ add w (keyOf i) | false ↦ w ]
 
 -- ## What stands before an item's turn
 
-pub record ReadySets (s : List ℕ) (i k n : ℕ) (t : List ℕ) : Type 0 where
+-- the names
+pub record Enterable (s : List ℕ) (i k n : ℕ) (w : List ℕ) : Type 0 where
   pub item : Item s i k n
-  pub sets : Named s i t
-
-pub record ReadyLasts (s : List ℕ) (i k n : ℕ) (a b c : List ℕ) : Type 0 where
-  pub item : Item s i k n
-  pub last : Lasts s i a b c
-
--- the sets of names, and all names of types
-pub record ReadyNames (s : List ℕ) (i n : ℕ) (t : List ℕ) (names : NameSet) : Type 0 where
-  pub name : n ≡ itemName s i
-  pub sets : Named s i t
-  pub known : Known s i names
+  pub names : Named s i w
 
 -- the functions
-pub record ReadyKeys (s : List ℕ) (i k n : ℕ) (w : List ℕ) : Type 0 where
+pub record WithKeys (s : List ℕ) (i k n : ℕ) (bits : List ℕ) : Type 0 where
   pub item : Item s i k n
-  pub keys : w ≡ keysTo s i
+  pub keys : bits ≡ keysTo s i
 
--- the same, where the item is a function
-pub record ReadyFunction (s : List ℕ) (i n : ℕ) (w : List ℕ) : Type 0 where
+-- both
+pub record KnownItem (s : List ℕ) (i k n : ℕ) (w bits : List ℕ) : Type 0 where
+  pub item : Item s i k n
+  pub names : Named s i w
+  pub keys : bits ≡ keysTo s i
+
+-- the names, of whatever kind the item is
+pub record KnownType (s : List ℕ) (i n : ℕ) (w : List ℕ) : Type 0 where
+  pub accepted : Accepted s
+  pub below : i < items s
+  pub name : n ≡ itemName s i
+  pub names : Named s i w
+
+-- the functions, where the item is one
+pub record KnownFunction (s : List ℕ) (i n : ℕ) (bits : List ℕ) : Type 0 where
   pub accepted : Accepted s
   pub below : i < items s
   pub is-function : isFunction s i ≡ true
   pub name : n ≡ itemName s i
-  pub keys : w ≡ keysTo s i
-
--- all of it
-pub record ReadyItem (s : List ℕ) (i k n : ℕ) (t : List ℕ) (names : NameSet) (w : List ℕ) : Type 0 where
-  pub item : Item s i k n
-  pub sets : Named s i t
-  pub known : Known s i names
-  pub keys : w ≡ keysTo s i
+  pub keys : bits ≡ keysTo s i
 
 -- ## The whole pass
 
--- it begins with empty sets and no last items
-pub record ReadyTables (s t a b c : List ℕ) : Type 0 where
+-- it begins with what no items make known
+pub record Nameable (s w : List ℕ) : Type 0 where
   pub accepted : Accepted s
-  pub sets : Named s 0 t
-  pub last : Lasts s 0 a b c
+  pub names : Named s 0 w
 
--- and ends with those of all items, and their duplicates reported
-pub record Declared (s t a b c : List ℕ) (out : List ℕ) (cx : Errors) (out′ : List ℕ) (cx′ : Errors) : Type 0 where
-  pub sets : Named s (items s) t
-  pub last : Lasts s (items s) a b c
+-- and ends with what all items do, and their duplicates reported
+pub record Declared (s w : List ℕ) (out : List ℕ) (cx : Errors) (out′ : List ℕ) (cx′ : Errors) : Type 0 where
+  pub names : Named s (items s) w
   pub reported : Reported out cx (duplicates s) cx′ out′

@@ -1,17 +1,18 @@
--- Reasons counted as the code counts them, and what the code does with the table of counts.
+-- Reasons counted as the code counts them: in a column of the table of names, one more for each name of a list.
 -- Assumes nothing: these are definitions.
 use Prim.Native.Nat.{ℕ, _+_, _*_}
 use mathlib.Core.Path.{_≡_}
-use mathlib.Core.Bool.{true, false, not}
-use mathlib.Core.List.{List, [], _∷_}
-use lib.ListN.{length, getD, set}
+use mathlib.Core.Bool.{true, not}
+use mathlib.Core.List.{List, [], _∷_, _++_}
 use lib.Dec.{ltb, eqb}
+use Rattle.rules.specs.Numbers.{noRow, requiredTrivialSet}
 use Rattle.rules.specs.Base.{if_then_else_, over}
 use Rattle.rules.specs.Format.{pairAt}
-use Rattle.rules.specs.Names.{empty}
 use Rattle.rules.specs.View.{entry, items}
-use Rattle.rules.specs.Trivial.{insist, reasonsOfItem, reasonsOfRow, requiredOf}
-use Rattle.names.specs.Table.{wordsAt}
+use Rattle.rules.specs.Trivial.{insist, reasonsOfItem, reasonsOfRow}
+use Rattle.rules.specs.Types.{isExtern}
+use Rattle.names.specs.Known.{entryAt, tabled, entered}
+use Rattle.row_tables.specs.Tables.{WantRows}
 
 -- a count stops at its largest, so that no sum wraps and no caller owes a bound; no sheet has so many reasons
 abbrev pub mostReasons : ℕ
@@ -20,19 +21,23 @@ mostReasons = 65535
 unfoldable pub oneMore : ℕ → ℕ
 oneMore x = if ltb x mostReasons then x + 1 else x
 
--- a table of counts, with one more for each name of a list
-unfoldable pub countAll : List ℕ → List ℕ → List ℕ
-countAll t [] = t
-countAll t (n ∷ ns) = countAll (set t n (oneMore (getD t n 0))) ns
+-- a table with one reason more for each name of a list
+unfoldable pub tally : List ℕ → List ℕ → List ℕ
+tally w [] = w
+tally w (n ∷ ns) = tally (entered w requiredTrivialSet true n (oneMore (entryAt w requiredTrivialSet n))) ns
 
--- u is t with the reasons of a list counted
-pub record Counted (t ns u : List ℕ) : Type 0 where
-  pub is : u ≡ countAll t ns
+-- u is w with the reasons of a list counted
+pub record Tallied (w ns u : List ℕ) : Type 0 where
+  pub is : u ≡ tally w ns
 
--- the rules' lists of reasons, by the structs, enums and cxx of a table of sets
-module _ (s sets : List ℕ) where
+-- the rules' lists of reasons, by what a table has of the names
+module _ (s w : List ℕ) where
+  -- the table of the names that the rows want
+  abbrev pub Wants : (table : List ℕ) → Type 0
+  Wants table = WantRows s (tabled s w) table
+
   abbrev pub ofPlain : (r : ℕ) → List ℕ
-  ofPlain r = insist s (wordsAt sets 0) (wordsAt sets 1) (wordsAt sets 2) r
+  ofPlain r = insist s (isExtern (tabled s w)) r
 
   -- of the rows of the list at a place
   abbrev pub ofList : (at : ℕ) → List ℕ
@@ -40,13 +45,13 @@ module _ (s sets : List ℕ) where
 
   -- of a return row, or of none
   abbrev pub ofReturn : (r : ℕ) → List ℕ
-  ofReturn r = if not (eqb r 65535) then ofPlain r else []
+  ofReturn r = if not (eqb r noRow) then ofPlain r else []
 
   abbrev pub ofItem : (i : ℕ) → List ℕ
-  ofItem i = reasonsOfItem s (wordsAt sets 0) (wordsAt sets 1) (wordsAt sets 2) i
+  ofItem i = reasonsOfItem s (isExtern (tabled s w)) i
 
   abbrev pub ofRow : (r : ℕ) → List ℕ
-  ofRow r = reasonsOfRow s (wordsAt sets 0) (wordsAt sets 1) (wordsAt sets 2) r
+  ofRow r = reasonsOfRow s (isExtern (tabled s w)) r
 
   abbrev pub ofItems : List ℕ
   ofItems = over (items s) ofItem
@@ -55,12 +60,6 @@ module _ (s sets : List ℕ) where
   abbrev pub ofRows : (scratch : List ℕ) (n : ℕ) → List ℕ
   ofRows scratch n = over n (λ k. ofRow (pairAt scratch (2 * k)))
 
--- the set of required-trivial names is empty, and then that of the names with a reason; the others stay
-pub record ReadyRequired (before : List ℕ) : Type 0 where
-  pub long : length before ≡ 28
-  pub none : wordsAt before 6 ≡ empty
-
-pub record Required (reasons before after : List ℕ) : Type 0 where
-  pub long : length after ≡ 28
-  pub here : wordsAt after 6 ≡ requiredOf reasons
-  pub others : (j : ℕ) → ltb j 7 ≡ true → eqb j 6 ≡ false → wordsAt after j ≡ wordsAt before j
+  -- of all items, and then of those rows
+  abbrev pub ofAll : (scratch : List ℕ) (n : ℕ) → List ℕ
+  ofAll scratch n = ofItems ++ ofRows scratch n

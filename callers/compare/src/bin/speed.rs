@@ -19,7 +19,7 @@ fn us(time: Duration) -> f64 {
 
 /// The scratch is full of old bytes before each run, which is not timed; each call clears it at its end, which is.
 fn timed(mut call: impl FnMut(&mut [u8])) -> Duration {
-    let mut scratch = [0; 4096];
+    let mut scratch = [0; tirvouez::SCRATCH];
     let run = |_| {
         scratch.fill(0xA5);
         let start = Instant::now();
@@ -37,7 +37,7 @@ fn port(sheet: &[u8], out: &mut [u8]) -> Duration {
 
 /// All records, in one call: no report has more than 32,768.
 fn port_all(sheet: &[u8]) -> Duration {
-    port(sheet, &mut vec![0; 1312 + 8 * 32_768])
+    port(sheet, &mut vec![0; tirvouez::room(32_768)])
 }
 
 fn rust(sheet: &[u8]) -> Option<Duration> {
@@ -71,7 +71,7 @@ fn painted_over() -> usize {
 
 /// Bytes of stack that one call takes.
 fn stack(sheet: &[u8], out: &mut [u8]) -> usize {
-    let mut scratch = [0; 4096];
+    let mut scratch = [0; tirvouez::SCRATCH];
     paint();
     black_box(tirvouez::check(sheet, &mut scratch, 0, out));
     painted_over()
@@ -248,14 +248,14 @@ struct Line {
 }
 
 fn measure(sheet: &[u8]) -> Option<Line> {
-    let mut out = vec![0; 1312 + 8 * 4096];
-    let mut scratch = [0; 4096];
+    let mut out = vec![0; tirvouez::room(4096)];
+    let mut scratch = [0; tirvouez::SCRATCH];
     tirvouez::check(sheet, &mut scratch, 0, &mut out);
     if out[0] != 0 {
         return None;
     }
     let records = u32::from_le_bytes([out[8], out[9], out[10], out[11]]) as usize;
-    let lists = LISTS.iter().map(|&count| port(sheet, &mut out[..1312 + 8 * count])).collect();
+    let lists = LISTS.iter().map(|&count| port(sheet, &mut out[..tirvouez::room(count)])).collect();
     Some(Line { rust: rust(sheet), lists, all: port_all(sheet), records, stack: stack(sheet, &mut out) })
 }
 
@@ -324,8 +324,8 @@ fn again(name: &str) {
         Some(profile) => (0..20).map(|number| profile.sheet(7, number)).collect(),
         None => worst().into_iter().filter(|(about, _)| about.contains(name)).map(|(_, sheet)| sheet).collect(),
     };
-    let mut out = vec![0; 1312 + 8 * 4096];
-    let mut scratch = [0; 4096];
+    let mut out = vec![0; tirvouez::room(4096)];
+    let mut scratch = [0; tirvouez::SCRATCH];
     let start = Instant::now();
     while start.elapsed() < Duration::from_secs(4) {
         for sheet in &sheets {

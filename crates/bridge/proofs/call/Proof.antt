@@ -47,19 +47,20 @@ use denote.Exit.{yes}
 use denote.Signature.{plain}
 use Rattle.rules.specs.declared.Diagnostic.{Diagnostic}
 use Rattle.rules.specs.declared.Answer.{Answer}
-use Rattle.bridge_core.specs.Windows.{nextOf}
+use Rattle.windows.specs.Windows.{nextOf}
 use Rattle.bridge.specs.Call.{Windowed, Called}
 use Rattle.bridge.proofs.Locals.{local, part, lets, gets, gone}
 use Rattle.bridge.proofs.Again.{LentAgain}
 use Rattle.bridge.proofs.Relend.{lends-at, back-at}
 use Rattle.bridge.proofs.Turn.{Good, good-start, good-length, called, nearer-by, good-next, State, Nearer, nearer-wf, tests, fails}
+use Rattle.bridge.proofs.Spelled.{mach, spelled, is-mach, total-fits}
 use Rattle.rules.proofs.Diagnostic as T
 use Rattle.rules.proofs.Answer as S
 use Rattle.rules.proofs.Answer.Laws as S′
-use Rattle.bridge_core.proofs.next as next
-use Rattle.bridge_core.proofs.next.Symbol as next-def
-use Rattle.bridge_core.proofs.next.Symbol.{name as #bridge-core·next}
-use Rattle.bridge_core.proofs.next.Met as next-thm
+use Rattle.windows.proofs.next as next
+use Rattle.windows.proofs.next.Symbol as next-def
+use Rattle.windows.proofs.next.Symbol.{name as #windows·next}
+use Rattle.windows.proofs.next.Met as next-thm
 use Rattle.bridge.proofs.window as window
 use Rattle.bridge.proofs.window.Symbol as window-def
 use Rattle.bridge.proofs.window.Symbol.{name as #bridge·window}
@@ -104,9 +105,8 @@ module _ {M : Type 1} (𝓤 : URA M) (H : Heap 𝓤) (A : Atoms 𝓤) (mem : Mem
   Next = tripleOf 𝓤 H A next.signature (next.spec 𝓤 H A mem run)
 
   -- of `next`'s `ensured`, the clause alone
-  next-of : (r : Answer) (n k m : ℕ) → ent 𝓤 (ensured 𝓤 H A next.ended (next.clauses 𝓤 H A mem run) tt (r, (n, (k, tt))) tt m)
-      (fact 𝓤 (m ≡ nextOf (r .total) n k))
-  next-of r n k m = exE 𝓤 _ (λ ws. snd∗ 𝓤 (sem 𝓤 H A (lasts next.ended tt (r, (n, (k, tt))) ws)) (fact 𝓤 (m ≡ nextOf (r .total) n k)))
+  next-of : (t n k m : ℕ) → ent 𝓤 (ensured 𝓤 H A next.ended (next.clauses 𝓤 H A mem run) tt (t, (n, (k, tt))) tt m) (fact 𝓤 (m ≡ nextOf t n k))
+  next-of t n k m = exE 𝓤 _ (λ ws. snd∗ 𝓤 (sem 𝓤 H A (lasts next.ended tt (t, (n, (k, tt))) ws)) (fact 𝓤 (m ≡ nextOf t n k)))
 
 module _ {M : Type 1} (𝓤 : URA M) (H : Heap 𝓤) (A : Atoms 𝓤) (W : Given 𝓤 H A) (mem : Memory → SProp 𝓤) (run : Routine → Fun 𝓤) (κ κ₁ κ₂ : Lft)
     (q q₁ q₂ : Share) (b o : ℕ) (γ : GName) (sh : List ℕ) (b₁ o₁ : ℕ) (γ₁ : GName) (sc : List ℕ) (b₂ o₂ : ℕ) (γ₂ : GName) (ys : List Diagnostic)
@@ -175,14 +175,14 @@ module _ {M : Type 1} (𝓤 : URA M) (H : Heap 𝓤) (A : Atoms 𝓤) (W : Given
         fjoin ! $ move ! (4 ∷ 0 ∷ []) $ fjoin ! $
         nothing ! $ move ! (4 ∷ 0 ∷ []) $ join ! $ move ! (3 ∷ 0 ∷ []) $ join ! $ move ! (2 ∷ 0 ∷ []) $ join ! $ join ! $ frame ! $ done !
 
-  abbrev to-next : Answer → Val → ℕ → Next 𝓤 H A mem run .Ghost
-  to-next r w k = ((tt, tt, tt, (r, (length ys, (k, tt))), (w ∷ [], (vint w64 (length ys) ∷ [], (vint w64 k ∷ [], tt)))), tt)
+  abbrev to-next : (total from : ℕ) → Next 𝓤 H A mem run .Ghost
+  to-next total k = ((tt, tt, tt, (total, (length ys, (k, tt))), (vint w64 total ∷ [], (vint w64 (length ys) ∷ [], (vint w64 k ∷ [], tt)))), tt)
 
-  goes-next : (r : Answer) (w : Val) (k : ℕ) → Is S.the-row r (w ∷ []) → k < 2 ^ 64 → ent 𝓤 (emp 𝓤) (Next 𝓤 H A mem run .pre (to-next r w k))
-  goes-next r w k is fits =
+  goes-next : (total k : ℕ) → total < 2 ^ 64 → k < 2 ^ 64 → ent 𝓤 (emp 𝓤) (Next 𝓤 H A mem run .pre (to-next total k))
+  goes-next total k total-fits fits =
       qed W [] ∵ nothing ! $ owned ! usize (Is usize) (uint-makes 𝓤 H A W w64) k _ (refl, fits) $ fjoin ! $
       owned ! usize (Is usize) (uint-makes 𝓤 H A W w64) (length ys) _ (refl, room₂ .0) $ fjoin ! $
-      owned ! S.the-row (Is S.the-row) (LL.makes S.the-type S′.the-plain 𝓤 H A) r _ is $ fjoin ! $ nothing ! $ join ! $ frame ! $ done !
+      owned ! usize (Is usize) (uint-makes 𝓤 H A W w64) total _ (refl, total-fits) $ fjoin ! $ nothing ! $ join ! $ frame ! $ done !
 
   exits : (r : Answer) (w : Val) (c : List ℕ) (l : List Diagnostic) → Is S.the-row r (w ∷ []) → Called sh sc ys r c l → length c ≡ length sc
       → length l ≡ length ys
@@ -196,7 +196,7 @@ module _ {M : Type 1} (𝓤 : URA M) (H : Heap 𝓤) (A : Atoms 𝓤) (W : Given
       owned ! S.the-row (Is S.the-row) (LL.makes S.the-type S′.the-plain 𝓤 H A) r _ is $ done !
 
   module _ (𝓣 : Tables 𝓤 H) (known-window : Triple 𝓤 (𝓣 .C #bridge·window) (Window 𝓤 H A mem run))
-      (known-next : Triple 𝓤 (𝓣 .C #bridge-core·next) (Next 𝓤 H A mem run)) where
+      (known-next : Triple 𝓤 (𝓣 .C #windows·next) (Next 𝓤 H A mem run)) where
     module _ (l₀ l₁ l₂ l₃ l₄ l₅ l₆ l₇ l₈ l₉ l₁₀ l₁₁ l₁₂ : ℕ) where
       abbrev C : Calls 𝓤 H
       C = 𝓣 .C
@@ -263,6 +263,7 @@ module _ {M : Type 1} (𝓤 : URA M) (H : Heap 𝓤) (A : Atoms 𝓤) (W : Given
           -- [list's last; …; scratch's last; the tokens and the result; sheet's; what is kept of list's; what is kept of scratch's; _12; …]
           move ! (3 ∷ []) $ split ! $ move ! (1 ∷ []) $ peeks ! S.the-row (Is S.the-row) (shows 𝓤 H A S.the-row) r (w ∷ []) (λ is. drop ! $
           gets ! 21 refl (LL.lawful S.the-type S′.the-laws 𝓤 H A W .typed r _ is .0) $
+          rewrite ! 21 (λ (v : Val). ‵ (fat fullShare S′.mir l₅ 0 v)) (ap only (spelled r w is)) refl $
           -- ν′ and ν are ended, and list and scratch are back
           split ! $ move ! (1 ∷ []) $ split ! $ move ! (1 ∷ []) $ split ! $ lft-end ! tt $ move ! (0 ∷ 8 ∷ 4 ∷ []) $
           use3 W (later (‵ (Own₂ (zs .1 .1 .0)) ⊛ ‵ (flft κ₂ q₂))) (back-at R κ₂ (ν′ ∷ []) q₂ γ₂ b₂ o₂ 𝓤 H A W (named 2) (named 2) (t .1 .1) (length ys)
@@ -273,23 +274,24 @@ module _ {M : Type 1} (𝓤 : URA M) (H : Heap 𝓤) (A : Atoms 𝓤) (W : Given
           move ! (4 ∷ 6 ∷ []) $ drop ! $ drop ! $
           -- [scratch's; its token; list's; its token; sheet's token; sheet's; _12 at 6; …; _0; …]: `next`
           lets ! 8 refl (of-opd ! (part ! 24 refl (sub ! 1 refl (whole !)))) (tt, record { fits = room₂ .0 }) $
-          use0 W (raw (Next 𝓤 H A mem run .pre (to-next r w (t .0)))) (goes-next r w (t .0) is (good .fits)) $
-          calls-at ! (fmOf 𝓤 H (W .laws) 𝓣) (Next 𝓤 H A mem run) known-next (to-next r w (t .0))
-          (and-then ! (local ! 21 refl) (and-then ! (local ! 9 refl) (and-then ! (local ! 23 refl) (no-more !)))) (λ u.
+          use0 W (raw (Next 𝓤 H A mem run .pre (to-next (r .total) (t .0))))
+          (goes-next (r .total) (t .0) (total-fits r w is) (good .fits)) $
+          calls-at ! (fmOf 𝓤 H (W .laws) 𝓣) (Next 𝓤 H A mem run) known-next (to-next (r .total) (t .0))
+          (and-then ! (part ! 21 refl (sub ! 7 refl (whole !))) (and-then ! (local ! 9 refl) (and-then ! (local ! 23 refl) (no-more !)))) (λ u.
           use1 W (later (some (λ (m : ℕ). (‵ ftrue ⊛ ‵ (usize .own m (u ∷ [])))
-          ⊛ raw (ensured 𝓤 H A next.ended (next.clauses 𝓤 H A mem run) tt (r, (length ys, (t .0, tt))) tt m)))) (id⊢ 𝓤 _) $ await ! tt $ pick ! (λ m.
-          split ! $ move ! (1 ∷ []) $ use1 W (raw (fact 𝓤 (m ≡ nextOf (r .total) (length ys) (t .0)))) (next-of 𝓤 H A mem run r (length ys) (t .0) m) $
+          ⊛ raw (ensured 𝓤 H A next.ended (next.clauses 𝓤 H A mem run) tt (r .total, (length ys, (t .0, tt))) tt m)))) (id⊢ 𝓤 _) $ await ! tt $ pick ! (λ m.
+          split ! $ move ! (1 ∷ []) $ use1 W (raw (fact 𝓤 (m ≡ nextOf (r .total) (length ys) (t .0)))) (next-of 𝓤 H A mem run (r .total) (length ys) (t .0) m) $
           heard ! (m ≡ nextOf (r .total) (length ys) (t .0)) (λ f. split ! $ drop ! $
           peeks ! usize (Is usize) (shows 𝓤 H A usize) m (u ∷ []) (λ is-m. drop ! $
           gets ! 18 refl (uint-lawful 𝓤 H A W w64 .typed m _ is-m .0) $ rewrite ! 18 (λ (v : Val). ‵ (fat fullShare word l₆ 0 v)) (ap only (is-m .0)) refl $
           lets ! 6 refl (bin ! (local ! 18 refl) (local ! 22 refl) tt) (tt, tt) $
           first ! $ branches ! {y = eqb m (t .0)} (local ! 6 refl)
           -- the last window
-          (λ last. lets ! 30 refl (of-opd ! (local ! 20 refl)) (LL.lawful S.the-type S′.the-laws 𝓤 H A W .typed r _ is .0) $
+          (λ last. lets ! 30 refl (of-opd ! (local ! 20 refl)) (LL.lawful S.the-type S′.the-laws 𝓤 H A W .typed r _ (is-mach r w is) .0) $
           returns-within ! Post refl (look ! 30 refl) $ gone ! 30 refl refl $ gone ! 28 refl refl $ gone ! 26 refl refl $ gone ! 24 refl refl $
           gone ! 22 refl refl $ gone ! 20 refl refl $ gone ! 18 refl refl $ gone ! 16 refl refl $ gone ! 14 refl refl $ gone ! 12 refl refl $
           gone ! 10 refl refl $ gone ! 8 refl refl $ gone ! 6 refl refl $ free0 ! $
-          by ! (exits r w (zs .1 .0) (zs .1 .1 .0) is (called sh sc ys (t .0) (t .1 .0) (t .1 .1) r (zs .1 .0) (zs .1 .1 .0) good e m f
+          by ! (exits r (mach r) (zs .1 .0) (zs .1 .1 .0) (is-mach r w is) (called sh sc ys (t .0) (t .1 .0) (t .1 .1) r (zs .1 .0) (zs .1 .1 .0) good e m f
           (tests m (t .0) last)) (e₁ ∙ good .same) (e₂ ∙ good-length sh sc ys (t .0) (t .1 .0) (t .1 .1) good)))
           -- one window more
           (λ more. skips ! $ exec ! C Λ E (assign (place 4 []) (rvOpd (copy (place 6 [])))) (anyQ (Turned t)) $
@@ -325,7 +327,7 @@ module _ {M : Type 1} (𝓤 : URA M) (H : Heap 𝓤) (A : Atoms 𝓤) (W : Given
         (0, (sc, ys)))))))))))))))
 
 module _ {M : Type 1} (𝓤 : URA M) (H : Heap 𝓤) (A : Atoms 𝓤) (W : Given 𝓤 H A) (mem : Memory → SProp 𝓤) (run : Routine → Fun 𝓤) (𝓣 : Tables 𝓤 H)
-    (known-window : Triple 𝓤 (𝓣 .C #bridge·window) (Window 𝓤 H A mem run)) (known-next : Triple 𝓤 (𝓣 .C #bridge-core·next) (Next 𝓤 H A mem run)) where
+    (known-window : Triple 𝓤 (𝓣 .C #bridge·window) (Window 𝓤 H A mem run)) (known-next : Triple 𝓤 (𝓣 .C #windows·next) (Next 𝓤 H A mem run)) where
   call-walks : Walks 𝓤 H A call.ended stayed (WpFn 𝓤 H (𝓣 .C) (𝓣 .Λ) code.function) (call.clauses 𝓤 H A mem run)
   call-walks = walked 𝓤 H A call.ended stayed (call.clauses 𝓤 H A mem run) (WpFn 𝓤 H (𝓣 .C) (𝓣 .Λ) code.function)
       (λ κs. (slice-vals, (slice-vals, (slice-vals, tt)))) (λ κs. (
@@ -352,4 +354,4 @@ call-spec 𝓤 H 𝓜 𝓖 𝓡 =
     (tables 𝓤 H 𝓜 𝓡 code.env .C) (tables 𝓤 H 𝓜 𝓡 code.env .Λ) #bridge·call code.function (code.unfolded 𝓤 H 𝓜 𝓡)
     (call-meets 𝓤 H (𝓖 .A) (givenOf 𝓤 H 𝓜 𝓖) (𝓜 .mem) (𝓡 .run) (tablesOf 𝓤 H 𝓜 (tables 𝓤 H 𝓜 𝓡 code.env))
     (cited 𝓤 H (Window 𝓤 H (𝓖 .A) (𝓜 .mem) (𝓡 .run)) 𝓜 𝓡 code.env #bridge·window window-def.routine code.calls-bridge·window (window-thm.met 𝓤 H 𝓜 𝓖 𝓡))
-    (cited 𝓤 H (Next 𝓤 H (𝓖 .A) (𝓜 .mem) (𝓡 .run)) 𝓜 𝓡 code.env #bridge-core·next next-def.routine code.calls-bridge-core·next (next-thm.met 𝓤 H 𝓜 𝓖 𝓡)))
+    (cited 𝓤 H (Next 𝓤 H (𝓖 .A) (𝓜 .mem) (𝓡 .run)) 𝓜 𝓡 code.env #windows·next next-def.routine code.calls-windows·next (next-thm.met 𝓤 H 𝓜 𝓖 𝓡)))

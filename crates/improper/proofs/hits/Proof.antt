@@ -10,10 +10,10 @@ contains-requires : tie.Need-contains-requires
 contains-requires c κs = search needs
 
 returns : tie.Need-returns
-returns c = c .contains .ensures ∙ hits-name (c .before .before .args .names .words) (c .before .before .args .look) (c .before .if1 .taken)
+returns c = c .contains .ensures ∙ hits-name (c .before .before .args .found .words) (c .before .before .args .look) (c .before .if1 .taken)
 
 returns-2 : tie.Need-returns-2
-returns-2 c = hits-code (c .before .args .names .words) (c .before .args .look) (c .if1 .left)
+returns-2 c = hits-code (c .before .args .found .words) (c .before .args .look) (c .if1 .left)
 
 pub hits-spec : {M : Type 1} → statement M
 hits-spec = tie.close (tie.spec contains-requires returns returns-2)

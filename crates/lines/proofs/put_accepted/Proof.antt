@@ -2,12 +2,13 @@
 -- Assumes nothing.
 use borrow.Author.Needs.{needs}
 use native.Mathlib.Omega.{arith}
-use mathlib.Core.Path.{_≡_, ap}
-use lib.ListN.{length}
+use mathlib.Core.Path.{ap}
+use Rattle.rules.specs.Numbers.{nameCount}
 use Rattle.rules.specs.declared.NameSet.{NameSet}
-use Rattle.rules.specs.Text.{line, membersTo, acceptedText}
+use Rattle.rules.specs.Text.{line, membersTo}
 use Rattle.lines.proofs.Laws.{also, meant}
 use Rattle.lines.proofs.Parts.{cut}
+use Rattle.lines.proofs.Whole.{accepted-is}
 use Rattle.lines.proofs.put_accepted.Statement.{statement}
 use Rattle.lines.proofs.put_accepted.Tie as tie
 
@@ -17,26 +18,8 @@ improper-of-requires c κs = search needs
 put-total-requires : tie.Need-put-total-requires
 put-total-requires c κs = search needs
 
-slice-aggregate-put-order : tie.Need-slice-aggregate-put-order
-slice-aggregate-put-order c = search needs
-
-put-order-requires : tie.Need-put-order-requires
-put-order-requires c κs =
-    let begin = c .before .before .before .before .before .before .before .before .before .before .before in
-    let h : length (begin .args .answer .order) ≡ 255 = search needs in
-    (omega (arith, begin .pre .0), search needs)
-
-slice-aggregate-put-tiers : tie.Need-slice-aggregate-put-tiers
-slice-aggregate-put-tiers c = search needs
-
-slice-aggregate-put-tiers-2 : tie.Need-slice-aggregate-put-tiers-2
-slice-aggregate-put-tiers-2 c = search needs
-
-put-tiers-requires : tie.Need-put-tiers-requires
-put-tiers-requires c κs =
-    let begin = c .before .before .before .before .before .before .before .before .before .before .before .before .before .before .before .before .before in
-    let h : length (begin .args .answer .order) ≡ 255 = search needs in
-    (omega (arith, begin .pre .0), search needs)
+put-structs-requires : tie.Need-put-structs-requires
+put-structs-requires c κs = search needs
 
 put-improper-requires : tie.Need-put-improper-requires
 put-improper-requires c κs = search needs
@@ -48,26 +31,23 @@ same-length : tie.Need-same-length
 same-length c = search needs
 
 returns : tie.Need-returns
-unfolding acceptedText
 returns c =
     let records = c .before .before in
     let improper = records .before .before .before .before in
-    let tiers = improper .before .before .before .before in
-    let order = tiers .before .before .before .before .before .before in
-    let total = order .before .before .before .before .before in
+    let structs = improper .before .before .before .before in
+    let total = structs .before .before .before .before in
     let set = total .before .before in
-    let begin = set .before .before .before .before .before in
-    let named = ap (λ (s : NameSet). line "improper" (membersTo 256 (s .words))) (set .improper-of .ensures) in
-    let few = cut (begin .args .records) (begin .args .list) (begin .pre .1) in
-    let first = also (also (total .put-total .ensures .0) (order .put-order .ensures .0)) (tiers .put-tiers .ensures .0) in (
-      also (also first (meant (improper .put-improper .ensures .0) named)) (meant (records .put-records .ensures .0) few),
+    let begin = set .before .before .before in
+    let named = ap (λ (s : NameSet). line "improper" (membersTo nameCount (s .words))) (set .improper-of .ensures) in
+    let few = cut (begin .args .records) (begin .args .list) (begin .pre .0) in
+    let first = also (total .put-total .ensures .0) (structs .put-structs .ensures .0) in
+    let all = also (also first (meant (improper .put-improper .ensures .0) named)) (meant (records .put-records .ensures .0) few) in (
+      meant all (accepted-is (begin .args .answer) _),
       omega (
         arith,
         begin .pre .0,
-        begin .pre .1,
         total .put-total .ensures .1,
-        order .put-order .ensures .1,
-        tiers .put-tiers .ensures .1,
+        structs .put-structs .ensures .1,
         improper .put-improper .ensures .1,
         records .put-records .ensures .1,
       ),
@@ -79,11 +59,7 @@ put-accepted-spec =
     (tie.spec
     improper-of-requires
     put-total-requires
-    slice-aggregate-put-order
-    put-order-requires
-    slice-aggregate-put-tiers
-    slice-aggregate-put-tiers-2
-    put-tiers-requires
+    put-structs-requires
     put-improper-requires
     put-records-requires
     same-length

@@ -2,8 +2,6 @@
 -- Assumes nothing.
 use borrow.Author.Needs.{needs}
 use native.Mathlib.Omega.{arith}
-use mathlib.Core.Path.{_≡_}
-use lib.ListN.{length}
 use Rattle.lines.proofs.Whole.{text-refused, text-accepted, wrote, nothing}
 use Rattle.lines.proofs.Laws.{meant}
 use Rattle.lines.proofs.write.Statement.{statement}
@@ -24,9 +22,6 @@ enum-told c = search needs
 least-requires : tie.Need-least-requires
 least-requires c κs = search needs
 
-least-requires-2 : tie.Need-least-requires-2
-least-requires-2 c κs = search needs
-
 put-accepted-requires : tie.Need-put-accepted-requires
 put-accepted-requires c κs = search needs
 
@@ -42,24 +37,20 @@ returns-2 c =
     wrote
     (room .if1 .left)
     (omega (arith, refusal .put-refusal .ensures .1))
-    (meant (refusal .put-refusal .ensures .0) (text-refused (begin .args .answer) _ _ (told .verdict .given .1)))
+    (meant (refusal .put-refusal .ensures .0) (text-refused (begin .args .answer) _ (told .verdict .given .1)))
 
 same-length-2 : tie.Need-same-length-2
 same-length-2 c = search needs
 
 returns-3 : tie.Need-returns-3
 returns-3 c =
-    let long : length (c .before .before .before .before .before .before .before .before .before .before .args .answer .order) ≡ 255 = search needs in
     let lines = c .before .before in
     let records = lines .before .before in
-    let structs = records .before in
-    let told = structs .before in
+    let told = records .before in
     let room = told .before .before in
     let begin = room .before .before in
     let answer = begin .args .answer in
-    let same =
-    text-accepted answer (begin .args .structs) (answer .total) (begin .args .list) (told .enum-told .given .1) (omega arith) (structs .least .ensures .0)
-    (records .least2 .ensures .0) in
+    let same = text-accepted answer (answer .total) (begin .args .list) (told .enum-told .given .1) (records .least .ensures .0) in
     wrote (room .if1 .left) (lines .put-accepted .ensures .1) (meant (lines .put-accepted .ensures .0) same)
 
 pub write-spec : {M : Type 1} → statement M
@@ -71,7 +62,6 @@ write-spec =
     put-refusal-requires
     enum-told
     least-requires
-    least-requires-2
     put-accepted-requires
     same-length
     returns-2

@@ -21,7 +21,8 @@ returns c =
     let on = c .before .before in
     let begin = on .before .before in
     let a = begin .before .before .before .args in
-    subst (λ (d : Diagnostic). Paged (a .sheet .now) (a .scratch .now) d (on .call-on .result) (on .call-on .last .1 .0)) (begin .blank .ensures) (on .call-on .ensures)
+    subst (λ (d : Diagnostic). Paged (a .sheet .now) (a .scratch .now) d (on .call-on .result) (on .call-on .last .1 .0)) (begin .blank .ensures)
+    (on .call-on .ensures)
 
 pub call-spec : {M : Type 1} → statement M
 call-spec = tie.close (tie.spec blank-requires call-on-requires same-length returns)

@@ -45,11 +45,12 @@ use denote.Triple.Walked.{says, Stays, stay-none, stay-none-slice, gave-slice, w
 use denote.Triple.Walked.{walk-meets}
 use denote.Exit.{yes}
 use denote.Signature.{plain}
+use Rattle.rules.specs.Numbers.{windowSize}
 use Rattle.rules.specs.declared.Diagnostic.{Diagnostic}
 use Rattle.rules.specs.declared.Answer.{Answer}
 use Rattle.bridge.specs.Call.{Called}
 use Rattle.paged.specs.declared.Page.{Page}
-use Rattle.paged.specs.Paged.{capacity, Packed, Paged}
+use Rattle.paged.specs.Paged.{Packed, Paged}
 use Rattle.bridge.proofs.Locals.{local, part, lets, gets, gone}
 use Rattle.bridge.proofs.Buffer.{big-lit, Full, fills, lends, back, takes-whole}
 use Rattle.rules.proofs.Diagnostic as T
@@ -78,7 +79,7 @@ abbrev stayed : Stays (call-on.ended .signature .params) (call-on.ended .kept)
 stayed = (stay-none-slice (0 ∷ []) tt (plain (λ _. u8)) yes, (gave-slice (1 ∷ []) tt (plain (λ _. u8)), (stay-none (λ _. R) yes, tt)))
 
 abbrev K : ℕ
-K = capacity
+K = windowSize
 
 -- the array has room
 buffer-room : Room R K

@@ -4,9 +4,9 @@ use borrow.Author.Needs.{needs}
 use mathlib.Core.Path.{_≡_}
 use native.Mathlib.Omega.{arith}
 use lib.ListN.{length, replicate, length-replicate}
+use Rattle.rules.specs.Numbers.{windowSize}
 use Rattle.rules.specs.declared.Diagnostic.{Diagnostic}
 use Rattle.errors.specs.Records.{blank}
-use Rattle.paged.specs.Paged.{capacity}
 use Rattle.lines.proofs.Whole.{wrote-meant}
 use Rattle.printed.proofs.Shown.{text-is}
 use Rattle.printed.proofs.text.Statement.{statement}
@@ -18,9 +18,6 @@ slice-aggregate-call c = search needs
 call-requires : tie.Need-call-requires
 call-requires c κs = search needs
 
-structs-requires : tie.Need-structs-requires
-structs-requires c κs = search needs
-
 write-requires : tie.Need-write-requires
 write-requires c κs = search needs
 
@@ -30,14 +27,11 @@ same-length c = search needs
 returns : tie.Need-returns
 returns c =
     let written = c .before .before in
-    let counted = written .before in
-    let called = counted .before .before .before .before .before in
+    let called = written .before .before .before .before .before in
     let sheet = called .before .before .before .before .args .sheet .now in
     let page = called .call .ensures .called in
-    let long : length (replicate {A = Diagnostic} capacity blank) ≡ 4096 = length-replicate {A = Diagnostic} 4096 blank in
-    wrote-meant
-    (written .write .ensures)
-    (text-is sheet (replicate capacity blank) _ _ _ (omega arith) (page .answer) (page .list) (counted .structs .ensures))
+    let long : length (replicate {A = Diagnostic} windowSize blank) ≡ windowSize = length-replicate {A = Diagnostic} windowSize blank in
+    wrote-meant (written .write .ensures) (text-is sheet (replicate windowSize blank) _ _ (omega arith) (page .answer) (page .list))
 
 pub text-spec : {M : Type 1} → statement M
-text-spec = tie.close (tie.spec slice-aggregate-call call-requires structs-requires write-requires same-length returns)
+text-spec = tie.close (tie.spec slice-aggregate-call call-requires write-requires same-length returns)

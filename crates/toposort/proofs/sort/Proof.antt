@@ -5,20 +5,19 @@ use mathlib.Core.Path.{_≡_, refl, sym, _∙_}
 use lib.ListN.{length}
 use native.Mathlib.Omega.{arith}
 use borrow.Author.Needs.{needs}
-use Rattle.rules.specs.Types.{typesOf}
-use Rattle.rules.specs.Order.{graphOf}
-use Rattle.laws.proofs.Tests.{holds}
-use Rattle.laws.proofs.LastItems.{struct-is}
+use Rattle.toposort.specs.Leads.{tableGraph}
+use Rattle.laws.proofs.base.Tests.{holds}
+use Rattle.laws.proofs.names.LastItems.{struct-is}
 use Rattle.toposort.proofs.Edges.{bounded}
 use Rattle.toposort.proofs.Sorting.{Sorting, sorting-none, sorting-room, sorting-struct, sorting-other, sorted}
 use Rattle.toposort.proofs.sort.Statement.{statement}
 use Rattle.toposort.proofs.sort.Tie as tie
 
 abbrev Inv-loop : tie.InvT-loop
-Inv-loop s last out₀ w₀ i₀ out w i = (length out ≡ length out₀) × Sorting (graphOf s (typesOf s)) out₀ (w₀ .errors) i out w
+Inv-loop s leads out₀ order₀ w₀ i₀ out order w i = (length out ≡ length out₀) × Sorting (tableGraph s leads) out₀ (w₀ .errors) i out order w
 
 abbrev μ-loop : tie.MeasureT-loop
-μ-loop s last out₀ w₀ i₀ out w i = 255 - i
+μ-loop s leads out₀ order₀ w₀ i₀ out order w i = 255 - i
 
 loop-holds : tie.Need-loop-holds Inv-loop μ-loop
 loop-holds c = (refl, sorting-none _ _ _)
@@ -31,12 +30,13 @@ is-struct-requires c κs = search needs
 
 visit-requires : tie.Need-visit-requires Inv-loop μ-loop
 visit-requires c κs =
-    let s = c .before .before .before .before .before .before .before .args .s .now in
-    let acc = c .before .before .before .before .before .before .before .pre .accepted in
-    let l = c .before .before .before .before .loop in
-    let st = struct-is s (l .i) .0 (holds (sym (c .before .before .is-struct .ensures) ∙ c .before .if1 .taken)) in
-    let room = sorting-room (bounded s acc) (l .inv .1) (c .before .before .before .loop-test .taken) in
-    (c .before .before .before .before .before .before .before .pre, (st, room))
+    let c8 = c .before .before .before .before .before .before .before .before in
+    let s = c8 .args .s .now in
+    let own = c8 .pre in
+    let l = c .before .before .before .before .before .loop in
+    let st = struct-is s (l .i) .0 (holds (sym (c .before .before .before .is-struct .ensures) ∙ c .before .before .if1 .taken)) in
+    let room = sorting-room (bounded own) (l .inv .1) (c .before .before .before .before .loop-test .taken) in
+    (c8 .pre, (st, room))
 
 loop-less : tie.Need-loop-less Inv-loop μ-loop
 loop-less c = omega arith
@@ -44,17 +44,17 @@ loop-less c = omega arith
 loop-again : tie.Need-loop-again Inv-loop μ-loop
 loop-again c =
     let c2 = c .before .before in
-    let c4 = c2 .before .before in
-    let c5 = c4 .before in
+    let c5 = c2 .before .before .before in
     let c6 = c5 .before in
     let c7 = c6 .before in
-    let c10 = c7 .before .before .before in
-    let s = c10 .args .s .now in
-    let acc = c10 .pre .accepted in
-    let l = c7 .loop in
+    let c8 = c7 .before in
+    let c11 = c8 .before .before .before in
+    let s = c11 .args .s .now in
+    let own = c11 .pre in
+    let l = c8 .loop in
     let v = c2 .visit in
-    let st = sym (c5 .is-struct .ensures) ∙ c4 .if1 .taken in
-    (v .kept .1 .1 .0 ∙ l .inv .0, sorting-struct (bounded s acc) (l .inv .1) (c6 .loop-test .taken) _ _ st (v .ensures))
+    let st = sym (c6 .is-struct .ensures) ∙ c5 .if1 .taken in
+    (v .kept .1 .1 .1 .0 ∙ l .inv .0, sorting-struct (bounded own) (l .inv .1) (c7 .loop-test .taken) _ _ _ st (v .ensures))
 
 loop-less-2 : tie.Need-loop-less-2 Inv-loop μ-loop
 loop-less-2 c = omega arith
@@ -62,20 +62,18 @@ loop-less-2 c = omega arith
 loop-again-2 : tie.Need-loop-again-2 Inv-loop μ-loop
 loop-again-2 c =
     let s = c .before .before .before .before .before .before .args .s .now in
-    let acc = c .before .before .before .before .before .before .pre .accepted in
+    let own = c .before .before .before .before .before .before .pre in
     let l = c .before .before .before .loop in
     let st = sym (c .before .is-struct .ensures) ∙ c .if1 .left in
-    (l .inv .0, sorting-other (bounded s acc) (l .inv .1) (c .before .before .loop-test .taken) st)
+    (l .inv .0, sorting-other (bounded own) (l .inv .1) (c .before .before .loop-test .taken) st)
 
 same-length : tie.Need-same-length Inv-loop μ-loop
-same-length c = c .before .before .before .loop .inv .0
+same-length c = c .before .before .loop .inv .0
 
 returns : tie.Need-returns Inv-loop μ-loop
 returns c =
-    let c2 = c .before .before in
-    let c3 = c2 .before in
-    let c6 = c3 .before .before .before in
-    sorted (c6 .args .s .now) (c6 .pre .accepted) (c3 .loop .inv .1) (c2 .loop-test .left)
+    let c5 = c .before .before .before .before .before in
+    sorted (c5 .pre) (c .before .before .loop .inv .1) (c .before .loop-test .left)
 
 pub sort-spec : {M : Type 1} → statement M
 sort-spec =

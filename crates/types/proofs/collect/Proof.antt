@@ -1,7 +1,7 @@
 -- `types::collect` meets its contract: each part leaves what the rules say of the sheet.
 -- Assumes nothing.
 use borrow.Author.Needs.{needs}
-use Rattle.types.proofs.Whole.{held-none, tables-none, whole}
+use Rattle.types.proofs.Whole.{held-none, named-start, whole}
 use Rattle.types.proofs.collect.Statement.{statement}
 use Rattle.types.proofs.collect.Tie as tie
 
@@ -15,16 +15,11 @@ visit-items-requires c κs =
 
 collect-names-requires : tie.Need-collect-names-requires
 collect-names-requires c κs =
-    let c₁₆ = c .before .before .before .before .before .before .before .before .before .before .before .before .before .before .before .before in
-    tables-none (c₁₆ .pre .accepted)
+    let c₁₃ = c .before .before .before .before .before .before .before .before .before .before .before .before .before in
+    named-start (c₁₃ .pre)
 
 required-trivial-reasons-requires : tie.Need-required-trivial-reasons-requires
 required-trivial-reasons-requires c κs = search needs
-
-enter-required-requires : tie.Need-enter-required-requires
-enter-required-requires c κs =
-    let c₈ = c .before .before .before .before .before .before .before .before in
-    record { long = c₈ .collect-names .ensures .sets .long; none = c₈ .collect-names .ensures .sets .trivial }
 
 same-length : tie.Need-same-length
 same-length c = search needs
@@ -34,11 +29,10 @@ same-length-2 c = search needs
 
 returns : tie.Need-returns
 returns c =
-    let c₃ = c .before .before .before in let c₉ = c₃ .before .before .before .before .before .before in
-    let c₁₇ = c₉ .before .before .before .before .before .before .before .before in let c₂₁ = c₁₇ .before .before .before .before in
-    let c₂₆ = c₂₁ .before .before .before .before .before in
-    whole (c₂₆ .pre) (c₂₁ .clear .ensures) (c₁₇ .visit-items .ensures) (c₁₇ .visit-items .kept .1 .0) (c₉ .collect-names .ensures)
-    (c₃ .required-trivial-reasons .ensures) (c .enter-required .ensures)
+    let c₅ = c .before .before .before .before .before in let c₁₀ = c₅ .before .before .before .before .before in
+    let c₁₄ = c₁₀ .before .before .before .before in let c₁₉ = c₁₄ .before .before .before .before .before in
+    whole (c₁₉ .pre) (c₁₄ .clear .ensures) (c₁₀ .visit-items .ensures) (c₁₀ .visit-items .kept .1 .0) (c₅ .collect-names .ensures)
+    (c .required-trivial-reasons .ensures)
 
 pub collect-spec : {M : Type 1} → statement M
 collect-spec =
@@ -48,7 +42,6 @@ collect-spec =
     visit-items-requires
     collect-names-requires
     required-trivial-reasons-requires
-    enter-required-requires
     same-length
     same-length-2
     returns)

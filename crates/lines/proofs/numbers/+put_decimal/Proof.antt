@@ -8,7 +8,7 @@ use borrow.Author.Needs.{needs}
 use borrow.Fn.Kinds.{In}
 use borrow.Fn.PlainCycle.{Measures, is, falls, and}
 use Rattle.rules.specs.Text.{decimal}
-use Rattle.laws.proofs.Digits.{decimal-small, decimal-more, length-small, length-more}
+use Rattle.laws.proofs.base.Digits.{decimal-small, decimal-more, length-small, length-more}
 use Rattle.lines.proofs.Laws.{also, meant}
 use Rattle.lines.proofs.numbers.put_decimal.Reads as put-decimal
 use Rattle.lines.proofs.numbers.put_decimal.Kinds as put-decimal-kinds

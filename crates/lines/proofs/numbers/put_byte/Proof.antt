@@ -2,7 +2,7 @@
 -- Assumes nothing.
 use borrow.Author.Needs.{needs}
 use native.Mathlib.Omega.{arith}
-use Rattle.laws.proofs.Digits.{byte-short, spaced-length}
+use Rattle.laws.proofs.base.Digits.{byte-short, spaced-length}
 use Rattle.lines.proofs.numbers.put_byte.Statement.{statement}
 use Rattle.lines.proofs.numbers.put_byte.Tie as tie
 

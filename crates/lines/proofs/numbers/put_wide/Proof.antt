@@ -2,7 +2,7 @@
 -- Assumes nothing.
 use borrow.Author.Needs.{needs}
 use native.Mathlib.Omega.{arith}
-use Rattle.laws.proofs.Digits.{word-short, spaced-length}
+use Rattle.laws.proofs.base.Digits.{word-short, spaced-length}
 use Rattle.lines.proofs.numbers.put_wide.Statement.{statement}
 use Rattle.lines.proofs.numbers.put_wide.Tie as tie
 

@@ -2,7 +2,7 @@
 -- Assumes nothing.
 use borrow.Author.Needs.{needs}
 use native.Mathlib.Omega.{arith}
-use Rattle.laws.proofs.Digits.{byte-short}
+use Rattle.laws.proofs.base.Digits.{byte-short}
 use Rattle.lines.proofs.records.put_message.Statement.{statement}
 use Rattle.lines.proofs.records.put_message.Tie as tie
 

@@ -2,7 +2,7 @@
 -- Assumes nothing.
 use borrow.Author.Needs.{needs}
 use mathlib.Core.Path.{sym, _∙_}
-use Rattle.bridge_core.proofs.RunCases.{collectable}
+use Rattle.bridge_core.proofs.RunCases.{runnable}
 use Rattle.replay.proofs.Asked.{no-rows, some-rows}
 use Rattle.replay.proofs.port.rows.Statement.{statement}
 use Rattle.replay.proofs.port.rows.Tie as tie
@@ -17,7 +17,7 @@ enum-told-2 : tie.Need-enum-told-2
 enum-told-2 c = search needs
 
 collect-requires : tie.Need-collect-requires
-collect-requires c κs = collectable _ _ _ (sym (c .before .before .before .read-with .ensures) ∙ c .before .enum-told2 .given .1)
+collect-requires c κs = runnable _ _ _ (sym (c .before .before .before .read-with .ensures) ∙ c .before .enum-told2 .given .1)
 
 returns : tie.Need-returns
 returns c = no-rows (sym (c .before .before .read-with .ensures) ∙ c .enum-told .given .1)

@@ -9,14 +9,14 @@ use Rattle.sheet.proofs.row_steps.body.Tie as tie
 limited-requires : tie.Need-limited-requires
 limited-requires c κs = search needs
 
-flagged-requires : tie.Need-flagged-requires
-flagged-requires c κs = search needs
+with-flags-requires : tie.Need-with-flags-requires
+with-flags-requires c κs = search needs
 
-flagged-requires-2 : tie.Need-flagged-requires-2
-flagged-requires-2 c κs = search needs
+with-flags-requires-2 : tie.Need-with-flags-requires-2
+with-flags-requires-2 c κs = search needs
 
-flagged-requires-3 : tie.Need-flagged-requires-3
-flagged-requires-3 c κs = search needs
+with-flags-requires-3 : tie.Need-with-flags-requires-3
+with-flags-requires-3 c κs = search needs
 
 signature-requires : tie.Need-signature-requires
 signature-requires c κs = search needs
@@ -30,14 +30,14 @@ returns c = rw (c .before .match .keys1) (c .limited .ensures)
 
 returns-2 : tie.Need-returns-2
 unfolding bodyOf rowKinds
-returns-2 c = rw (c .before .match .keys2) (c .flagged .ensures)
+returns-2 c = rw (c .before .match .keys2) (c .with-flags .ensures)
 
 returns-3 : tie.Need-returns-3
-returns-3 c = body-flags _ _ _ (c .before .match .keys3) (c .flagged2 .ensures)
+returns-3 c = body-flags _ _ _ (c .before .match .keys3) (c .with-flags2 .ensures)
 
 returns-4 : tie.Need-returns-4
 unfolding bodyOf rowKinds
-returns-4 c = rw (c .before .match .keys4) (c .flagged3 .ensures)
+returns-4 c = rw (c .before .match .keys4) (c .with-flags3 .ensures)
 
 returns-5 : tie.Need-returns-5
 unfolding bodyOf rowKinds
@@ -54,9 +54,9 @@ body-spec =
     tie.close
     (tie.spec
     limited-requires
-    flagged-requires
-    flagged-requires-2
-    flagged-requires-3
+    with-flags-requires
+    with-flags-requires-2
+    with-flags-requires-3
     signature-requires
     limited-requires-2
     returns

@@ -3,8 +3,8 @@ use borrow.Author.Needs.{needs}
 use mathlib.Core.Path.{_∙_}
 use Rattle.errors.specs.Sink.{also, meant}
 use Rattle.rules.specs.Check.{check-api-fn}
-use Rattle.laws.proofs.Accepted.Items.{item-of}
-use Rattle.typecheck.proofs.Meant.{kind-meant, args-meant, return-meant}
+use Rattle.laws.proofs.sheet.Accepted.Items.{item-of}
+use Rattle.typecheck.proofs.Meant.{args-meant, return-meant}
 use Rattle.typecheck.proofs.functions.check_api_fn.Statement.{statement}
 use Rattle.typecheck.proofs.functions.check_api_fn.Tie as tie
 
@@ -26,7 +26,8 @@ check-fn-return-requires c κs = search needs
 check-fn-mut-return-requires : tie.Need-check-fn-mut-return-requires
 check-fn-mut-return-requires c κs =
     let early = c .before .before .before .before .before .before .before .before .before .before .before .before in
-    early .before .before .before .before .before .before .before .before .before .before .before .pre .mut-return
+    let given = early .before .before .before .before .before .before .before .before .before .before .before .pre in
+    given .mut-return
 
 same-length : tie.Need-same-length
 same-length c =
@@ -37,7 +38,7 @@ same-length c =
     let check-fn-args = c .before .before .before .before .before .before .before .before .before .before .check-fn-args in
     let check-fn-return = c .before .before .before .before .before .before .check-fn-return in
     let check-fn-mut-return = c .before .before .check-fn-mut-return in
-    check-fn-mut-return .kept .1 .1 .1 .1 .0 ∙ check-fn-return .kept .1 .1 .1 .1 .0 ∙ check-fn-args .kept .1 .1 .1 .1 .0
+    check-fn-mut-return .kept .1 .1 .1 .1 .0 ∙ check-fn-return .kept .1 .1 .1 .0 ∙ check-fn-args .kept .1 .1 .1 .0
     ∙ check-fn-kind .kept .1 .1 .1 .0 ∙ check-lifetimes .kept .1 .1 .0 ∙ check-fn-generics .kept .1 .1 .0
 
 returns : tie.Need-returns
@@ -51,12 +52,13 @@ returns c =
     let check-fn-args = c .before .before .before .before .before .before .before .before .before .before .check-fn-args in
     let check-fn-return = c .before .before .before .before .before .before .check-fn-return in
     let check-fn-mut-return = c .before .before .check-fn-mut-return in
-    let function = item-of _ (given .rows .accepted) _ (given .mut-return .below) .as-function (given .mut-return .function) in
+    let plain = given .mut-return in
+    let function = item-of _ (plain .accepted) _ (plain .below) .as-function (plain .function) in
     also (also (also (also (also
-    (check-fn-generics .ensures) (check-lifetimes .ensures))
-    (meant (check-fn-kind .ensures) (kind-meant (given .rows) _)))
-    (meant (check-fn-args .ensures) (args-meant (given .rows) _ function)))
-    (meant (check-fn-return .ensures) (return-meant (given .rows) _ function)))
+    (check-fn-generics .ensures _) (check-lifetimes .ensures _))
+    (check-fn-kind .ensures))
+    (meant (check-fn-args .ensures) (args-meant _ _ _ (given .faults-right) _ function)))
+    (meant (check-fn-return .ensures) (return-meant _ _ _ (given .faults-right) _ function)))
     (check-fn-mut-return .ensures)
 
 pub check-api-fn-spec : {M : Type 1} → statement M

@@ -1,6 +1,6 @@
 -- `typecheck::functions::check_fn_generics` meets its contract: each test that the code makes is that of the definition. Assumes nothing.
 use borrow.Author.Needs.{needs}
-use Rattle.errors.specs.Sink.{taken, left, meant-if}
+use Rattle.errors.specs.Sink.{meant-if, taken, left}
 use Rattle.rules.specs.Check.{check-fn-generics}
 use Rattle.typecheck.proofs.functions.check_fn_generics.Statement.{statement}
 use Rattle.typecheck.proofs.functions.check_fn_generics.Tie as tie
@@ -25,7 +25,7 @@ same-length c = search needs
 
 returns : tie.Need-returns
 unfolding check-fn-generics
-returns c =
+returns c = λ t.
     let lifetime-count = c .before .before .before .before .before .before .before .before .lifetime-count in
     let item-is = c .before .before .before .before .before .before .before .item-is in
     let if1 = c .before .before .before .before .before .before .if1 in
@@ -49,7 +49,7 @@ same-length-2 c = search needs
 
 returns-2 : tie.Need-returns-2
 unfolding check-fn-generics
-returns-2 c =
+returns-2 c = λ t.
     let lifetime-count = c .before .before .before .before .before .before .before .before .lifetime-count in
     let item-is = c .before .before .before .before .before .before .before .item-is in
     let if1 = c .before .before .before .before .before .before .if1 in

@@ -1,6 +1,6 @@
 -- `typecheck::functions::check_fn_mut_return` meets its contract: each test that the code makes is that of the definition. Assumes nothing.
 use borrow.Author.Needs.{needs}
-use Rattle.errors.specs.Sink.{taken, left, none}
+use Rattle.errors.specs.Sink.{silent, taken, left}
 use Rattle.typecheck.proofs.functions.check_fn_mut_return.Statement.{statement}
 use Rattle.typecheck.proofs.functions.check_fn_mut_return.Tie as tie
 
@@ -14,7 +14,9 @@ and-requires : tie.Need-and-requires
 and-requires c κs = search needs
 
 check-mut-return-restriction-requires : tie.Need-check-mut-return-restriction-requires
-check-mut-return-restriction-requires c κs = c .before .before .before .before .before .before .before .pre
+check-mut-return-restriction-requires c κs =
+    let given = c .before .before .before .before .before .before .before .pre in
+    given
 
 same-length : tie.Need-same-length
 same-length c = search needs
@@ -33,7 +35,7 @@ returns-2 c =
     let item-is = c .before .before .before .item-is in
     let function-unwind = c .before .before .function-unwind in
     let and = c .before .and in
-    left _ _ (c .if1 .left) (none _ _) (rw (item-is .ensures, function-unwind .ensures) at (and .ensures))
+    left _ _ (c .if1 .left) (silent _ _) (rw (item-is .ensures, function-unwind .ensures) at (and .ensures))
 
 pub check-fn-mut-return-spec : {M : Type 1} → statement M
 check-fn-mut-return-spec =

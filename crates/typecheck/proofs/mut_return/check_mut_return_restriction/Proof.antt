@@ -1,12 +1,12 @@
 -- `typecheck::mut_return::check_mut_return_restriction` meets its contract: each test that the code makes is that of the definition. Assumes nothing.
 use borrow.Author.Needs.{needs}
-use mathlib.Core.Path.{_∙_, ap}
+use mathlib.Core.Path.{ap, _∙_}
 use mathlib.Core.Bool.{not}
 use Rattle.rules.specs.View.{args}
-use Rattle.errors.specs.Sink.{taken, left, meant-if, none}
+use Rattle.errors.specs.Sink.{silent, meant-if, taken, left}
 use Rattle.rules.specs.Check.{check-mut-return-restriction}
-use Rattle.laws.proofs.Accepted.Items.{item-of}
-use Rattle.typecheck.proofs.Visitor.{any-args}
+use Rattle.laws.proofs.sheet.Accepted.Items.{item-of}
+use Rattle.row_tables.proofs.AnyOf.{any-args}
 use Rattle.typecheck.proofs.mut_return.check_mut_return_restriction.Statement.{statement}
 use Rattle.typecheck.proofs.mut_return.check_mut_return_restriction.Tie as tie
 
@@ -17,7 +17,7 @@ returns : tie.Need-returns
 unfolding check-mut-return-restriction
 returns c =
     let function-unsafe = c .before .function-unsafe in
-    taken _ _ (c .if1 .taken) (none _ _) (function-unsafe .ensures)
+    taken _ _ (c .if1 .taken) (silent _ _) (function-unsafe .ensures)
 
 returns-mut-requires : tie.Need-returns-mut-requires
 returns-mut-requires c κs = search needs
@@ -28,10 +28,10 @@ returns-2 c =
     let function-unsafe = c .before .before .before .function-unsafe in
     let if1 = c .before .before .if1 in
     let returns-mut = c .before .returns-mut in
-    left _ _ (if1 .left) (taken _ _ (c .if2 .taken) (none _ _) (ap not (returns-mut .ensures))) (function-unsafe .ensures)
+    left _ _ (if1 .left) (taken _ _ (c .if2 .taken) (silent _ _) (ap not (returns-mut .ensures _))) (function-unsafe .ensures)
 
 may-receiver-lend-requires : tie.Need-may-receiver-lend-requires
-may-receiver-lend-requires c κs = c .before .before .before .before .before .before .pre .visitor .last-type
+may-receiver-lend-requires c κs = search needs
 
 returns-3 : tie.Need-returns-3
 unfolding check-mut-return-restriction
@@ -41,16 +41,14 @@ returns-3 c =
     let returns-mut = c .before .before .before .returns-mut in
     let if2 = c .before .before .if2 in
     let may-receiver-lend = c .before .may-receiver-lend in
-    left _ _ (if1 .left)
-    (left _ _ (if2 .left) (taken _ _ (c .if3 .taken) (none _ _) (may-receiver-lend .ensures))
-    (ap not (returns-mut .ensures)))
+    left _ _ (if1 .left) (left _ _ (if2 .left) (taken _ _ (c .if3 .taken) (silent _ _) (may-receiver-lend .ensures)) (ap not (returns-mut .ensures _)))
     (function-unsafe .ensures)
 
-return-place-requires : tie.Need-return-place-requires
-return-place-requires c κs = search needs
+args-place-requires : tie.Need-args-place-requires
+args-place-requires c κs = search needs
 
-any-marked-arg-requires : tie.Need-any-marked-arg-requires
-any-marked-arg-requires c κs = search needs
+any-marked-in-requires : tie.Need-any-marked-in-requires
+any-marked-in-requires c κs = search needs
 
 item-error-requires : tie.Need-item-error-requires
 item-error-requires c κs = search needs
@@ -62,22 +60,20 @@ returns-4 : tie.Need-returns-4
 unfolding check-mut-return-restriction args
 returns-4 c =
     let given = c .before .before .before .before .before .before .before .before .before .before .before .before .before .before .pre in
-    let args-below = item-of _ (given .visitor .accepted) _ (given .below) .as-function (given .function) .arg-below in
     let function-unsafe = c .before .before .before .before .before .before .before .before .before .before .before .function-unsafe in
     let if1 = c .before .before .before .before .before .before .before .before .before .before .if1 in
     let returns-mut = c .before .before .before .before .before .before .before .before .before .returns-mut in
     let if2 = c .before .before .before .before .before .before .before .before .if2 in
     let may-receiver-lend = c .before .before .before .before .before .before .before .may-receiver-lend in
     let if3 = c .before .before .before .before .before .before .if3 in
-    let return-place = c .before .before .before .before .before .return-place in
-    let any-marked-arg = c .before .before .before .before .any-marked-arg in
+    let args-place = c .before .before .before .before .before .args-place in
+    let any-marked-in = c .before .before .before .before .any-marked-in in
     let item-error = c .before .before .item-error in
+    let args-below = item-of _ (given .accepted) _ (given .below) .as-function (given .function) .arg-below in
+    let found = (rw (args-place .ensures) at (any-marked-in .ensures)) ∙ any-args _ _ _ _ (given .muts-right) args-below in
     left _ _ (if1 .left)
-    (left _ _ (if2 .left)
-    (left _ _ (if3 .left)
-    (meant-if _ (item-error .ensures) (ap not ((rw (return-place .ensures) at (any-marked-arg .ensures)) ∙ any-args _ _ _ _ (given .muts-right) args-below)))
-    (may-receiver-lend .ensures))
-    (ap not (returns-mut .ensures)))
+    (left _ _ (if2 .left) (left _ _ (if3 .left) (meant-if _ (item-error .ensures) (ap not found)) (may-receiver-lend .ensures))
+    (ap not (returns-mut .ensures _)))
     (function-unsafe .ensures)
 
 pub check-mut-return-restriction-spec : {M : Type 1} → statement M
@@ -90,8 +86,8 @@ check-mut-return-restriction-spec =
     returns-2
     may-receiver-lend-requires
     returns-3
-    return-place-requires
-    any-marked-arg-requires
+    args-place-requires
+    any-marked-in-requires
     item-error-requires
     same-length
     returns-4)

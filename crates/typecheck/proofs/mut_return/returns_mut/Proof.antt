@@ -33,7 +33,7 @@ and-requires-2 c κs = search needs
 
 returns : tie.Need-returns
 unfolding returns-mut
-returns c =
+returns c = λ t.
     let return-row = c .before .before .before .before .before .before .before .before .return-row in
     let is = c .before .before .before .before .before .before .before .is in
     let is2 = c .before .before .before .before .before .before .is2 in
@@ -42,8 +42,16 @@ returns c =
     let and = c .before .before .before .and in
     let row-flags = c .before .before .row-flags in
     let flag1 = c .before .flag1 in
-    rw (and .ensures, has-return .ensures, or .ensures, is .ensures, is2 .ensures, flag1 .ensures, row-flags .ensures, return-row .ensures) at
-    (c .and2 .ensures)
+    rw (
+      and .ensures,
+      has-return .ensures,
+      or .ensures,
+      is .ensures,
+      is2 .ensures,
+      flag1 .ensures,
+      row-flags .ensures,
+      return-row .ensures,
+    ) at (c .and2 .ensures)
 
 pub returns-mut-spec : {M : Type 1} → statement M
 returns-mut-spec =

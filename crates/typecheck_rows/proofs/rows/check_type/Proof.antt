@@ -2,10 +2,9 @@
 use borrow.Author.Needs.{needs}
 use mathlib.Core.Path.{refl, sym, _∙_}
 use native.Mathlib.Nat.{lt-trans}
-use Rattle.rules.specs.Types.{typesOf}
 use Rattle.rules.specs.Check.{type-checks}
-use Rattle.errors.specs.Sink.{meant, none}
-use Rattle.laws.proofs.Accepted.Rows.{row-of}
+use Rattle.errors.specs.Sink.{meant, silent}
+use Rattle.laws.proofs.sheet.Accepted.Rows.{row-of}
 use Rattle.typecheck_rows.proofs.ByKind.{by-kind, nothing}
 use Rattle.typecheck_rows.proofs.UnsizedTable.{slice-ref, array-of}
 use Rattle.typecheck_rows.proofs.rows.check_type.Statement.{statement}
@@ -56,11 +55,10 @@ same-length c = search needs
 returns : tie.Need-returns
 unfolding type-checks
 returns c =
-    let given = c .before .before .before .before .before .before .before .before .pre in
     let kind = c .before .before .before .before .before .kind in
     let match = c .before .before .before .before .match in
     let check-type-ident = c .before .before .check-type-ident in
-    meant (check-type-ident .ensures) (by-kind _ _ (sym (match .keys1) ∙ kind .ensures) (given .tables .sets-held))
+    meant (check-type-ident .ensures) (by-kind _ _ _ (sym (match .keys1) ∙ kind .ensures))
 
 same-length-2 : tie.Need-same-length-2
 same-length-2 c = search needs
@@ -68,11 +66,10 @@ same-length-2 c = search needs
 returns-2 : tie.Need-returns-2
 unfolding type-checks
 returns-2 c =
-    let given = c .before .before .before .before .before .before .before .before .pre in
     let kind = c .before .before .before .before .before .kind in
     let match = c .before .before .before .before .match in
     let check-type-box = c .before .before .check-type-box in
-    meant (check-type-box .ensures) (by-kind _ _ (sym (match .keys2) ∙ kind .ensures) (given .tables .sets-held))
+    meant (check-type-box .ensures) (by-kind _ _ _ (sym (match .keys2) ∙ kind .ensures))
 
 same-length-3 : tie.Need-same-length-3
 same-length-3 c = search needs
@@ -80,11 +77,10 @@ same-length-3 c = search needs
 returns-3 : tie.Need-returns-3
 unfolding type-checks
 returns-3 c =
-    let given = c .before .before .before .before .before .before .before .before .pre in
     let kind = c .before .before .before .before .before .kind in
     let match = c .before .before .before .before .match in
     let check-type-rust-vec = c .before .before .check-type-rust-vec in
-    meant (check-type-rust-vec .ensures) (by-kind _ _ (sym (match .keys3) ∙ kind .ensures) (given .tables .sets-held))
+    meant (check-type-rust-vec .ensures) (by-kind _ _ _ (sym (match .keys3) ∙ kind .ensures))
 
 same-length-4 : tie.Need-same-length-4
 same-length-4 c = search needs
@@ -92,11 +88,10 @@ same-length-4 c = search needs
 returns-4 : tie.Need-returns-4
 unfolding type-checks
 returns-4 c =
-    let given = c .before .before .before .before .before .before .before .before .pre in
     let kind = c .before .before .before .before .before .kind in
     let match = c .before .before .before .before .match in
     let check-type-unique-ptr = c .before .before .check-type-unique-ptr in
-    meant (check-type-unique-ptr .ensures) (by-kind _ _ (sym (match .keys4) ∙ kind .ensures) (given .tables .sets-held))
+    meant (check-type-unique-ptr .ensures) (by-kind _ _ _ (sym (match .keys4) ∙ kind .ensures))
 
 same-length-5 : tie.Need-same-length-5
 same-length-5 c = search needs
@@ -104,11 +99,10 @@ same-length-5 c = search needs
 returns-5 : tie.Need-returns-5
 unfolding type-checks
 returns-5 c =
-    let given = c .before .before .before .before .before .before .before .before .pre in
     let kind = c .before .before .before .before .before .kind in
     let match = c .before .before .before .before .match in
     let check-type-shared-ptr = c .before .before .check-type-shared-ptr in
-    meant (check-type-shared-ptr .ensures) (by-kind _ _ (sym (match .keys5) ∙ kind .ensures) (given .tables .sets-held))
+    meant (check-type-shared-ptr .ensures) (by-kind _ _ _ (sym (match .keys5) ∙ kind .ensures))
 
 same-length-6 : tie.Need-same-length-6
 same-length-6 c = search needs
@@ -116,11 +110,10 @@ same-length-6 c = search needs
 returns-6 : tie.Need-returns-6
 unfolding type-checks
 returns-6 c =
-    let given = c .before .before .before .before .before .before .before .before .pre in
     let kind = c .before .before .before .before .before .kind in
     let match = c .before .before .before .before .match in
     let check-type-weak-ptr = c .before .before .check-type-weak-ptr in
-    meant (check-type-weak-ptr .ensures) (by-kind _ _ (sym (match .keys6) ∙ kind .ensures) (given .tables .sets-held))
+    meant (check-type-weak-ptr .ensures) (by-kind _ _ _ (sym (match .keys6) ∙ kind .ensures))
 
 same-length-7 : tie.Need-same-length-7
 same-length-7 c = search needs
@@ -128,11 +121,10 @@ same-length-7 c = search needs
 returns-7 : tie.Need-returns-7
 unfolding type-checks
 returns-7 c =
-    let given = c .before .before .before .before .before .before .before .before .pre in
     let kind = c .before .before .before .before .before .kind in
     let match = c .before .before .before .before .match in
     let check-type-cxx-vector = c .before .before .check-type-cxx-vector in
-    meant (check-type-cxx-vector .ensures) (by-kind _ _ (sym (match .keys7) ∙ kind .ensures) (given .tables .sets-held))
+    meant (check-type-cxx-vector .ensures) (by-kind _ _ _ (sym (match .keys7) ∙ kind .ensures))
 
 same-length-8 : tie.Need-same-length-8
 same-length-8 c = search needs
@@ -140,11 +132,10 @@ same-length-8 c = search needs
 returns-8 : tie.Need-returns-8
 unfolding type-checks
 returns-8 c =
-    let given = c .before .before .before .before .before .before .before .before .pre in
     let kind = c .before .before .before .before .before .kind in
     let match = c .before .before .before .before .match in
     let check-type-ref = c .before .before .check-type-ref in
-    meant (check-type-ref .ensures) (by-kind _ _ (sym (match .keys8) ∙ kind .ensures) (given .tables .sets-held))
+    meant (check-type-ref .ensures) (by-kind _ _ _ (sym (match .keys8) ∙ kind .ensures))
 
 same-length-9 : tie.Need-same-length-9
 same-length-9 c = search needs
@@ -155,7 +146,7 @@ returns-9 c =
     let kind = c .before .before .before .before .before .kind in
     let match = c .before .before .before .before .match in
     let check-type-ptr = c .before .before .check-type-ptr in
-    meant (check-type-ptr .ensures) (by-kind _ _ (sym (match .keys9) ∙ kind .ensures) refl)
+    meant (check-type-ptr .ensures _) (by-kind _ _ _ (sym (match .keys9) ∙ kind .ensures))
 
 same-length-10 : tie.Need-same-length-10
 same-length-10 c = search needs
@@ -167,9 +158,9 @@ returns-10 c =
     let kind = c .before .before .before .before .before .kind in
     let match = c .before .before .before .before .match in
     let check-type-slice-ref = c .before .before .check-type-slice-ref in
-    let inside = row-of _ (given .tables .accepted) _ (given .below) .inner-falls 10 refl (sym (kind .ensures) ∙ match .keys10) in
+    let inside = row-of _ (given .accepted) _ (given .below) .inner-falls 10 refl (sym (kind .ensures) ∙ match .keys10) in
     meant (check-type-slice-ref .ensures)
-    (slice-ref (given .tables) _ (lt-trans inside (given .below)) ∙ by-kind _ _ (sym (match .keys10) ∙ kind .ensures) refl)
+    (slice-ref _ _ _ (given .sizes-right) _ (lt-trans inside (given .below)) ∙ by-kind _ _ _ (sym (match .keys10) ∙ kind .ensures))
 
 same-length-11 : tie.Need-same-length-11
 same-length-11 c = search needs
@@ -181,9 +172,9 @@ returns-11 c =
     let kind = c .before .before .before .before .before .kind in
     let match = c .before .before .before .before .match in
     let check-type-array = c .before .before .check-type-array in
-    let inside = row-of _ (given .tables .accepted) _ (given .below) .inner-falls 11 refl (sym (kind .ensures) ∙ match .keys11) in
+    let inside = row-of _ (given .accepted) _ (given .below) .inner-falls 11 refl (sym (kind .ensures) ∙ match .keys11) in
     meant (check-type-array .ensures)
-    (array-of (given .tables) _ (lt-trans inside (given .below)) ∙ by-kind _ _ (sym (match .keys11) ∙ kind .ensures) refl)
+    (array-of _ _ _ (given .sizes-right) _ (lt-trans inside (given .below)) ∙ by-kind _ _ _ (sym (match .keys11) ∙ kind .ensures))
 
 same-length-12 : tie.Need-same-length-12
 same-length-12 c = search needs
@@ -194,15 +185,15 @@ returns-12 c =
     let kind = c .before .before .before .before .before .kind in
     let match = c .before .before .before .before .match in
     let check-type-fn = c .before .before .check-type-fn in
-    meant (check-type-fn .ensures) (by-kind _ _ (sym (match .keys12) ∙ kind .ensures) refl)
+    meant (check-type-fn .ensures _) (by-kind _ _ _ (sym (match .keys12) ∙ kind .ensures))
 
 returns-13 : tie.Need-returns-13
 returns-13 c =
     let kind = c .before .kind in
-    meant (none _ _) (nothing _ (typesOf _) _ _ (c .match .rest .0 .0 .0 .0 .0 .0 .0 .0 .0 .0 .0 .1)
+    meant (silent _ _) (nothing _ _ _ _ (c .match .rest .0 .0 .0 .0 .0 .0 .0 .0 .0 .0 .0 .1)
     (c .match .rest .0 .0 .0 .0 .0 .0 .0 .0 .0 .0 .1) (c .match .rest .0 .0 .0 .0 .0 .0 .0 .0 .0 .1) (c .match .rest .0 .0 .0 .0 .0 .0 .0 .0 .1)
     (c .match .rest .0 .0 .0 .0 .0 .0 .0 .1) (c .match .rest .0 .0 .0 .0 .0 .0 .1) (c .match .rest .0 .0 .0 .0 .0 .1) (c .match .rest .0 .0 .0 .0 .1)
-    (c .match .rest .0 .0 .0 .1) (c .match .rest .0 .0 .1) (c .match .rest .0 .1) (c .match .rest .1) ∙ by-kind _ _ (kind .ensures) refl)
+    (c .match .rest .0 .0 .0 .1) (c .match .rest .0 .0 .1) (c .match .rest .0 .1) (c .match .rest .1) ∙ by-kind _ _ _ (kind .ensures))
 
 pub check-type-spec : {M : Type 1} → statement M
 check-type-spec =

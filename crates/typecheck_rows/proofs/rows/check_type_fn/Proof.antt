@@ -22,7 +22,7 @@ same-length c = search needs
 
 returns : tie.Need-returns
 unfolding check-type-fn
-returns c =
+returns c = λ t.
     let row-flags = c .before .before .before .before .before .before .before .before .row-flags in
     let flag2 = c .before .before .before .before .before .before .before .flag2 in
     let row-error = c .before .before .before .before .before .before .row-error in

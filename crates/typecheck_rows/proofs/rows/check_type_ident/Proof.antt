@@ -5,9 +5,6 @@ use Rattle.rules.specs.Check.{check-type-ident}
 use Rattle.typecheck_rows.proofs.rows.check_type_ident.Statement.{statement}
 use Rattle.typecheck_rows.proofs.rows.check_type_ident.Tie as tie
 
-row-name-requires : tie.Need-row-name-requires
-row-name-requires c κs = search needs
-
 is-unsupported-requires : tie.Need-is-unsupported-requires
 is-unsupported-requires c κs = search needs
 
@@ -20,12 +17,10 @@ same-length c = search needs
 returns : tie.Need-returns
 unfolding check-type-ident
 returns c =
-    let row-name = c .before .before .before .before .row-name in
     let is-unsupported = c .before .before .before .is-unsupported in
     let row-error = c .before .before .row-error in
-    meant-if _ (row-error .ensures) (rw (row-name .ensures) at (is-unsupported .ensures))
+    meant-if _ (row-error .ensures) (is-unsupported .ensures)
 
 pub check-type-ident-spec : {M : Type 1} → statement M
 check-type-ident-spec =
-    tie.close
-    (tie.spec row-name-requires is-unsupported-requires row-error-requires same-length returns)
+    tie.close (tie.spec is-unsupported-requires row-error-requires same-length returns)

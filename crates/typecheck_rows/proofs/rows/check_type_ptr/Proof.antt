@@ -12,7 +12,7 @@ same-length c = search needs
 
 returns : tie.Need-returns
 unfolding check-type-ptr
-returns c =
+returns c = λ t.
     let check-pointee = c .before .before .check-pointee in
     check-pointee .ensures
 

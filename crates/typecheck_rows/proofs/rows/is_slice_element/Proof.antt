@@ -6,11 +6,11 @@ use Rattle.typecheck_rows.proofs.rows.is_slice_element.Tie as tie
 target-name-requires : tie.Need-target-name-requires
 target-name-requires c κs = search needs
 
-has-requires : tie.Need-has-requires
-has-requires c κs = search needs
+is-rust-requires : tie.Need-is-rust-requires
+is-rust-requires c κs = search needs
 
-has-requires-2 : tie.Need-has-requires-2
-has-requires-2 c κs = search needs
+is-alias-requires : tie.Need-is-alias-requires
+is-alias-requires c κs = search needs
 
 or-requires : tie.Need-or-requires
 or-requires c κs = search needs
@@ -32,22 +32,24 @@ or-requires-2 c κs = search needs
 
 returns : tie.Need-returns
 returns c =
+    let args = c .before .before .before .before .before .before .before .before .before .before .args in
     let target-name = c .before .before .before .before .before .before .before .before .target-name in
-    let has = c .before .before .before .before .before .before .before .has in
-    let has2 = c .before .before .before .before .before .before .has2 in
+    let is-rust = c .before .before .before .before .before .before .before .is-rust in
+    let is-alias = c .before .before .before .before .before .before .is-alias in
     let or = c .before .before .before .before .before .or in
     let inner = c .before .before .before .before .inner in
     let is-unsized = c .before .before .before .is-unsized in
     let target-is = c .before .before .target-is in
     let and = c .before .and in
+    let s = args .s .now in
     rw (
       and .ensures,
       is-unsized .ensures,
       inner .ensures,
       target-is .ensures,
       or .ensures,
-      has .ensures,
-      has2 .ensures,
+      is-rust .ensures s,
+      is-alias .ensures s,
       target-name .ensures,
     ) at (c .or2 .ensures)
 
@@ -56,8 +58,8 @@ is-slice-element-spec =
     tie.close
     (tie.spec
     target-name-requires
-    has-requires
-    has-requires-2
+    is-rust-requires
+    is-alias-requires
     or-requires
     inner-requires
     is-unsized-requires

@@ -28,13 +28,14 @@ or-requires-2 c κs = search needs
 returns : tie.Need-returns
 unfolding requires-pin
 returns c =
+    let args = c .before .before .before .before .before .before .before .before .args in
     let row-name = c .before .before .before .before .before .before .row-name in
     let is-opaque = c .before .before .before .before .before .is-opaque in
     let or = c .before .before .before .before .or in
     let is = c .before .before .before .is in
     let and = c .before .before .and in
     let is2 = c .before .is2 in
-    rw (and .ensures, is .ensures, or .ensures, is-opaque .ensures, row-name .ensures, is2 .ensures) at (c .or2 .ensures)
+    rw (and .ensures, is .ensures, or .ensures, is-opaque .ensures (args .s .now), row-name .ensures, is2 .ensures) at (c .or2 .ensures)
 
 pub requires-pin-spec : {M : Type 1} → statement M
 requires-pin-spec =

@@ -7,8 +7,8 @@ use Rattle.rules.specs.Check.{check-type-box}
 use Rattle.typecheck_rows.proofs.targets.check_type_box.Statement.{statement}
 use Rattle.typecheck_rows.proofs.targets.check_type_box.Tie as tie
 
-is-cxx-target-requires : tie.Need-is-cxx-target-requires
-is-cxx-target-requires c κs = search needs
+is-opaque-target-requires : tie.Need-is-opaque-target-requires
+is-opaque-target-requires c κs = search needs
 
 row-error-requires : tie.Need-row-error-requires
 row-error-requires c κs = search needs
@@ -25,17 +25,17 @@ same-length c = search needs
 returns : tie.Need-returns
 unfolding check-type-box
 returns c =
-    let is-cxx-target = c .before .before .before .before .before .before .before .before .is-cxx-target in
+    let is-opaque-target = c .before .before .before .before .before .before .before .before .is-opaque-target in
     let row-error = c .before .before .before .before .before .before .before .row-error in
     let is-box-target = c .before .before .before .is-box-target in
     let row-error2 = c .before .before .row-error2 in
-    also-if _ (meant-if _ (row-error .ensures) (is-cxx-target .ensures)) (row-error2 .ensures) (ap not (is-box-target .ensures))
+    also-if _ (meant-if _ (row-error .ensures) (is-opaque-target .ensures)) (row-error2 .ensures) (ap not (is-box-target .ensures))
 
 pub check-type-box-spec : {M : Type 1} → statement M
 check-type-box-spec =
     tie.close
     (tie.spec
-    is-cxx-target-requires
+    is-opaque-target-requires
     row-error-requires
     is-box-target-requires
     row-error-requires-2

@@ -1,6 +1,6 @@
 -- `typecheck_rows::targets::check_type_unique_ptr` meets its contract: each test that the code makes is that of the definition. Assumes nothing.
 use borrow.Author.Needs.{needs}
-use Rattle.errors.specs.Sink.{taken, left, none, unless}
+use Rattle.errors.specs.Sink.{taken, left, silent, unless}
 use Rattle.rules.specs.Check.{check-type-unique-ptr}
 use Rattle.rules.specs.Diagnostics.{when}
 use Rattle.typecheck_rows.proofs.targets.check_type_unique_ptr.Statement.{statement}
@@ -32,7 +32,7 @@ returns-2 c =
     let is-rust-target = c .before .before .before .is-rust-target in
     let if1 = c .before .before .if1 in
     let is-unique-target = c .before .is-unique-target in
-    left _ _ (if1 .left) (taken _ _ (c .if2 .taken) (none _ _) (is-unique-target .ensures)) (is-rust-target .ensures)
+    left _ _ (if1 .left) (taken _ _ (c .if2 .taken) (silent _ _) (is-unique-target .ensures)) (is-rust-target .ensures)
 
 target-is-requires : tie.Need-target-is-requires
 target-is-requires c κs = search needs

@@ -3,25 +3,27 @@ use borrow.Author.Needs.{needs}
 use Rattle.typecheck_rows.proofs.targets.is_rust_target.Statement.{statement}
 use Rattle.typecheck_rows.proofs.targets.is_rust_target.Tie as tie
 
-target-is-requires : tie.Need-target-is-requires
-target-is-requires c κs = search needs
-
 target-name-requires : tie.Need-target-name-requires
 target-name-requires c κs = search needs
 
-has-requires : tie.Need-has-requires
-has-requires c κs = search needs
+is-rust-requires : tie.Need-is-rust-requires
+is-rust-requires c κs = search needs
+
+target-is-requires : tie.Need-target-is-requires
+target-is-requires c κs = search needs
 
 and-requires : tie.Need-and-requires
 and-requires c κs = search needs
 
 returns : tie.Need-returns
 returns c =
-    let target-is = c .before .before .before .target-is in
-    let target-name = c .before .before .target-name in
-    let has = c .before .has in
-    rw (has .ensures, target-is .ensures, target-name .ensures) at (c .and .ensures)
+    let args = c .before .before .before .before .before .args in
+    let target-name = c .before .before .before .target-name in
+    let is-rust = c .before .before .is-rust in
+    let target-is = c .before .target-is in
+    rw (target-is .ensures, is-rust .ensures (args .s .now), target-name .ensures) at (c .and .ensures)
 
 pub is-rust-target-spec : {M : Type 1} → statement M
 is-rust-target-spec =
-    tie.close (tie.spec target-is-requires target-name-requires has-requires and-requires returns)
+    tie.close
+    (tie.spec target-name-requires is-rust-requires target-is-requires and-requires returns)

@@ -6,14 +6,14 @@ use Rattle.typecheck_rows.proofs.targets.is_vector_element.Tie as tie
 target-name-requires : tie.Need-target-name-requires
 target-name-requires c κs = search needs
 
-target-is-requires : tie.Need-target-is-requires
-target-is-requires c κs = search needs
-
 or-requires : tie.Need-or-requires
 or-requires c κs = search needs
 
 or-requires-2 : tie.Need-or-requires-2
 or-requires-2 c κs = search needs
+
+target-is-requires : tie.Need-target-is-requires
+target-is-requires c κs = search needs
 
 and-requires : tie.Need-and-requires
 and-requires c κs = search needs
@@ -21,9 +21,9 @@ and-requires c κs = search needs
 returns : tie.Need-returns
 returns c =
     let target-name = c .before .before .before .before .target-name in
-    let target-is = c .before .before .before .target-is in
-    let or = c .before .before .or in
-    let or2 = c .before .or2 in
+    let or = c .before .before .before .or in
+    let or2 = c .before .before .or2 in
+    let target-is = c .before .target-is in
     rw (or2 .ensures, or .ensures, target-is .ensures, target-name .ensures) at (c .and .ensures)
 
 pub is-vector-element-spec : {M : Type 1} → statement M
@@ -31,8 +31,8 @@ is-vector-element-spec =
     tie.close
     (tie.spec
     target-name-requires
-    target-is-requires
     or-requires
     or-requires-2
+    target-is-requires
     and-requires
     returns)

@@ -8,6 +8,9 @@ use Rattle.types.proofs.duplicates.key.Tie as tie
 is-free-requires : tie.Need-is-free-requires
 is-free-requires c κs = search needs
 
+cast-pick : tie.Need-cast-pick
+cast-pick c = search needs
+
 self-type-requires : tie.Need-self-type-requires
 self-type-requires c κs = search needs
 
@@ -25,13 +28,16 @@ add-result c = search needs
 
 returns : tie.Need-returns
 unfolding keyOf
-returns c = λ e. rw ((c .pick .ensures), (c .before .before .is-free .ensures), (c .before .self-type .ensures), e)
+returns c =
+    let c₁ = c .before in let c₂ = c₁ .before in
+    λ e. rw ((c .pick .ensures), (c₂ .is-free .ensures), (c₁ .self-type .ensures), e)
 
 pub key-spec : {M : Type 1} → statement M
 key-spec =
     tie.close
     (tie.spec
     is-free-requires
+    cast-pick
     self-type-requires
     pick-requires
     cast-result

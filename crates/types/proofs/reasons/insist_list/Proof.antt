@@ -5,16 +5,17 @@ use mathlib.Core.Path.{_≡_, _∙_}
 use native.Mathlib.Omega.{arith}
 use Rattle.rules.specs.Base.{over}
 use Rattle.rules.specs.View.{entry}
-use Rattle.types.specs.Reasons.{Counted, ofPlain}
-use Rattle.types.proofs.Counting.{over-none, over-more, over-end}
+use Rattle.rules.specs.Trivial.{insist}
+use Rattle.types.specs.Reasons.{Tallied, ofPlain}
+use Rattle.types.proofs.Counting.{tally-by, wants-same, over-none, over-more, over-end}
 use Rattle.types.proofs.reasons.insist_list.Statement.{statement}
 use Rattle.types.proofs.reasons.insist_list.Tie as tie
 
 abbrev Inv-loop : tie.InvT-loop
-Inv-loop s sets reasons₀ at count j₀ reasons j = (j ≤ count) × Counted reasons₀ (over j (λ i. ofPlain s sets (entry s at i))) reasons
+Inv-loop s names₀ wants at count j₀ names j = (j ≤ count) × Tallied names₀ (over j (λ i. ofPlain s names₀ (entry s at i))) names
 
 abbrev μ-loop : tie.MeasureT-loop
-μ-loop s sets reasons₀ at count j₀ reasons j = count - j
+μ-loop s names₀ wants at count j₀ names j = count - j
 
 pair-at-requires : tie.Need-pair-at-requires Inv-loop μ-loop
 pair-at-requires c κs = tt
@@ -26,7 +27,9 @@ entry-requires : tie.Need-entry-requires Inv-loop μ-loop
 entry-requires c κs = tt
 
 insist-requires : tie.Need-insist-requires Inv-loop μ-loop
-insist-requires c κs = tt
+insist-requires c κs =
+    let c₃ = c .before .before .before in let c₆ = c₃ .before .before .before in
+    wants-same (c₆ .args .s .now) (c₆ .args .wants .now) (c₃ .loop .inv .1) (c₆ .pre)
 
 add-j : tie.Need-add-j Inv-loop μ-loop
 add-j c =
@@ -39,19 +42,17 @@ loop-less c = omega (arith, (c .before .before .before .loop-test .taken))
 loop-again : tie.Need-loop-again Inv-loop μ-loop
 loop-again c =
     let c₁ = c .before in let c₃ = c₁ .before .before in let c₄ = c₃ .before in let c₇ = c₄ .before .before .before in
-    let a = c₇ .args in
-    let e = c₁ .entry .ensures in (
-      omega (arith, (c₃ .loop-test .taken)),
-      over-more (λ j. ofPlain (a .s .now) (a .sets .now) (entry (a .s .now) (a .at) j)) (c₄ .loop .j)
-          (c₄ .loop .inv .1) (rw e at (c .insist .ensures)),
-    )
+    let a = (c₇ .args) in
+    let p = (c₄ .loop .inv .1) in
+    let q = tally-by (a .s .now) (λ f. insist (a .s .now) f (entry (a .s .now) (a .at) (c₄ .loop .j))) p (rw (c₁ .entry .ensures) at (c .insist .ensures)) in
+    (omega (arith, (c₃ .loop-test .taken)), over-more (λ j. ofPlain (a .s .now) (a .names .now) (entry (a .s .now) (a .at) j)) (c₄ .loop .j) p q)
 
 returns : tie.Need-returns Inv-loop μ-loop
 returns c =
     let c₁ = c .before in let c₂ = c₁ .before in let c₄ = c₂ .before .before in
-    let a = c₄ .args in
+    let a = (c₄ .args) in
     let e : (c₁ .loop .j) ≡ (c₂ .pair-at .result) = omega (arith, (c .loop-test .left)) in
-    over-end (λ j. ofPlain (a .s .now) (a .sets .now) (entry (a .s .now) (a .at) j)) (c₁ .loop .j) (c₁ .loop .inv .1) (e ∙ (c₂ .pair-at .ensures))
+    over-end (λ j. ofPlain (a .s .now) (a .names .now) (entry (a .s .now) (a .at) j)) (c₁ .loop .j) (c₁ .loop .inv .1) (e ∙ (c₂ .pair-at .ensures))
 
 pub insist-list-spec : {M : Type 1} → statement M
 insist-list-spec =

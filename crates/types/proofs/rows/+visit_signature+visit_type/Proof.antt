@@ -10,10 +10,10 @@ use mathlib.Core.Logic.{⊎-elim}
 use native.Mathlib.Omega.{arith}
 use lib.ListN.{length}
 use Rattle.rules.specs.View.{kind, orNothing, fnReturn}
-use Rattle.laws.proofs.Accepted.Rows.{row-of}
+use Rattle.laws.proofs.sheet.Accepted.Rows.{row-of}
 use Rattle.laws.specs.Kinds.{leaf}
-use Rattle.laws.proofs.Collect.Shown.{shown-leaf, shown-fn}
-use Rattle.types.specs.Scratch.{Walks}
+use Rattle.laws.proofs.sheet.Collect.Shown.{shown-leaf, shown-fn}
+use Rattle.types.specs.Walk.{Walks}
 use Rattle.types.proofs.Walking.{few, held-next, still, wider, further, old, new, none, one}
 use Rattle.types.proofs.Walking.{firstRows, to-none, to-more, to-end, not-none, inner-less, shown-one, args-less, args-are}
 use Prim.Native.Nat.{ℕ, _<_}
@@ -31,9 +31,9 @@ use Rattle.sheet.proofs.pair_at.Reads as pair-at-reads
 use Rattle.sheet.proofs.rows.fn_return.Reads as fn-return-reads
 use Rattle.sheet.proofs.rows.inner.Reads as inner-reads
 use Rattle.sheet.proofs.rows.kind.Reads as kind-reads
-use Rattle.types.proofs.rows.add.Reads as add-reads
+use Rattle.scratch.proofs.add.Reads as add-reads
 use Rattle.types.proofs.rows.leaf.Reads as leaf-reads
-use Rattle.types.proofs.rows.seen.Reads as seen-reads
+use Rattle.scratch.proofs.seen.Reads as seen-reads
 use Rattle.types.proofs.rows.+visit_signature+visit_type.{statement}
 use Rattle.types.proofs.rows.+visit_signature+visit_type.Tie.{close}
 
@@ -254,7 +254,7 @@ module _ (t : ℕ) where
       let a = c₆ .args in
       let R = c₆ .pre .1 in
       let o = sym (c₂ .seen .ensures) ∙ (c₁ .if1 .left) in
-      ((few R, R .walk .long), (R .walk .held, o))
+      record { below = few R; long = R .walk .long; held = R .walk .held; unseen = o }
 
   visit-type-kind-requires : visit-type-lts.Need-kind-requires (type-calls t) (visit-type-at t) visit-type.Post
   visit-type-kind-requires c κs = search needs

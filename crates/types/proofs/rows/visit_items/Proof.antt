@@ -8,7 +8,7 @@ use lib.ListN.{length}
 use Rattle.rules.specs.Base.{over}
 use Rattle.rules.specs.View.{rows}
 use Rattle.rules.specs.Collect.{shownBy}
-use Rattle.types.specs.Scratch.{Walks}
+use Rattle.types.specs.Walk.{Walks}
 use Rattle.types.proofs.Walking.{held-next}
 use Rattle.types.proofs.Showing.{items-none, items-more, items-end}
 use Rattle.types.proofs.rows.visit_items.Statement.{statement}

@@ -7,7 +7,7 @@ use native.Mathlib.Omega.{arith}
 use native.Mathlib.Nat.{le-refl}
 use lib.ListN.{length}
 use Rattle.rules.specs.View.{rows}
-use Rattle.types.specs.Scratch.{Walks}
+use Rattle.types.specs.Walk.{Walks}
 use Rattle.types.proofs.Walking.{held-next, firstRows, to-none, to-more, to-end}
 use Rattle.types.proofs.rows.visit_list.Statement.{statement}
 use Rattle.types.proofs.rows.visit_list.Tie as tie
@@ -27,8 +27,8 @@ loop-holds c = (refl, omega arith, to-none _ (c .before .before .before .pre .wa
 entry-requires : tie.Need-entry-requires Inv-loop μ-loop
 entry-requires c κs = search needs
 
-visit-type-requires : tie.Need-visit-type-requires Inv-loop μ-loop
-visit-type-requires c κs =
+show-requires : tie.Need-show-requires Inv-loop μ-loop
+show-requires c κs =
     let c₁ = c .before in let c₂ = c₁ .before in let c₃ = c₂ .before in let c₄ = c₃ .before in let c₇ = c₄ .before .before .before in
     let p = c₇ .pre in
     let l = c₃ .loop in
@@ -52,7 +52,7 @@ loop-again c =
     let g = c₅ .loop-test .taken in
     let x = p .below (l .j) (omega (arith, (c₇ .pair-at .ensures))) in
     let e = c₄ .entry .ensures in
-    let v = c₂ .visit-type in
+    let v = c₂ .show in
     (v .kept .1 .0 ∙ l .inv .0, omega arith, to-more _ (l .j) (l .inv .2) e (omega arith) (v .ensures))
 
 same-length : tie.Need-same-length Inv-loop μ-loop
@@ -73,7 +73,7 @@ visit-list-spec =
     pair-at-requires
     loop-holds
     entry-requires
-    visit-type-requires
+    show-requires
     add-j
     loop-less
     loop-again

@@ -1,0 +1,20 @@
+-- `known::is_cxx` is `isCxx` of the rules, by the table.
+-- Assumes nothing.
+use borrow.Author.Needs.{needs}
+use mathlib.Core.Path.{sym, ap, _∙_}
+use lib.Dec.{ltb}
+use Rattle.rules.specs.Types.{isCxx}
+use Rattle.names.specs.Known.{tabled}
+use Rattle.names.proofs.Columns.{has-is}
+use Rattle.names.proofs.known.is_cxx.Statement.{statement}
+use Rattle.names.proofs.known.is_cxx.Tie as tie
+
+entry-requires : tie.Need-entry-requires
+entry-requires c κs = search needs
+
+returns : tie.Need-returns
+unfolding isCxx tabled
+returns c s = ap (ltb 0) (c .entry .ensures) ∙ sym (has-is _ _ _)
+
+pub is-cxx-spec : {M : Type 1} → statement M
+is-cxx-spec = tie.close (tie.spec entry-requires returns)

@@ -1,0 +1,6 @@
+pub mod Branches
+pub mod AnyOf
+pub mod FaultLaws
+pub mod LeadLaws
+pub mod NameLooks
+pub mod WantLaws

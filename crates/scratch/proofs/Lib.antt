@@ -1,0 +1,3 @@
+pub mod OneMore
+pub mod Stored
+pub mod Zeroed

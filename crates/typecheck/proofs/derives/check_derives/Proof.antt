@@ -1,0 +1,85 @@
+-- `typecheck::derives::check_derives` meets its contract: the derives before j have given their messages. Assumes nothing.
+use borrow.Author.Needs.{needs}
+use Prim.Native.Nat.{_≤_, _-_}
+use mathlib.Core.Path.{_≡_, refl, _∙_}
+use native.Mathlib.Omega.{arith}
+use lib.ListN.{length}
+use Rattle.rules.specs.Base.{over}
+use Rattle.rules.specs.View.{deriveCount, derive}
+use Rattle.errors.specs.Sink.{Reported, start, turn, whole}
+use Rattle.typecheck.specs.Derives.{derived, allDerived}
+use Rattle.typecheck.proofs.derives.check_derives.Statement.{statement}
+use Rattle.typecheck.proofs.derives.check_derives.Tie as tie
+
+abbrev Inv-loop : tie.InvT-loop
+Inv-loop s out₀ owner i at n e₀ j₀ out e j = (length out ≡ length out₀) × (j ≤ n) × Reported out₀ e₀ (over j (λ k. derived s owner i k (derive s i k))) e out
+
+abbrev μ-loop : tie.MeasureT-loop
+μ-loop s out₀ owner i at n e₀ j₀ out e j = n - j
+
+derives-place-requires : tie.Need-derives-place-requires Inv-loop μ-loop
+derives-place-requires c κs = search needs
+
+cast-pair-at : tie.Need-cast-pair-at Inv-loop μ-loop
+cast-pair-at c = search needs
+
+pair-at-requires : tie.Need-pair-at-requires Inv-loop μ-loop
+pair-at-requires c κs = search needs
+
+loop-holds : tie.Need-loop-holds Inv-loop μ-loop
+loop-holds c = (refl, omega arith, start _ _ _)
+
+add-j : tie.Need-add-j Inv-loop μ-loop
+add-j c = omega arith
+
+entry-requires : tie.Need-entry-requires Inv-loop μ-loop
+entry-requires c κs = search needs
+
+check-derive-requires : tie.Need-check-derive-requires Inv-loop μ-loop
+check-derive-requires c κs = search needs
+
+loop-less : tie.Need-loop-less Inv-loop μ-loop
+loop-less c = omega arith
+
+loop-again : tie.Need-loop-again Inv-loop μ-loop
+unfolding derive
+loop-again c =
+    let derives-place = c .before .before .before .before .before .before .before .before .derives-place in
+    let loop = c .before .before .before .before .before .before .loop in
+    let entry = c .before .before .before .entry in
+    let check-derive = c .before .before .check-derive in (
+      check-derive .kept .1 .1 .0 ∙ loop .inv .0,
+      omega arith,
+      turn _ _ (loop .inv .2) (rw (rw (derives-place .ensures) at (entry .ensures)) at (check-derive .ensures)),
+    )
+
+same-length : tie.Need-same-length Inv-loop μ-loop
+same-length c =
+    let loop = c .before .loop in
+    loop .inv .0
+
+returns : tie.Need-returns Inv-loop μ-loop
+unfolding allDerived deriveCount
+returns c =
+    let derives-place = c .before .before .before .derives-place in
+    let pair-at = c .before .before .pair-at in
+    let loop = c .before .loop in
+    let e : loop .j ≡ pair-at .result = omega arith in whole _ (loop .inv .2) (e ∙ (rw (derives-place .ensures) at (pair-at .ensures)))
+
+pub check-derives-spec : {M : Type 1} → statement M
+check-derives-spec =
+    tie.close
+    (tie.spec
+    Inv-loop
+    μ-loop
+    derives-place-requires
+    cast-pair-at
+    pair-at-requires
+    loop-holds
+    add-j
+    entry-requires
+    check-derive-requires
+    loop-less
+    loop-again
+    same-length
+    returns)

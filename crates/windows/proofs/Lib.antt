@@ -1,0 +1,4 @@
+pub mod Records
+pub mod Stores
+pub mod Turn
+pub mod Windows
