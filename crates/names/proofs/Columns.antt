@@ -164,12 +164,3 @@ unfolding namesIn
 column-same v w k h =
     set-same (namesIn v k) (namesIn w k) (below-set (λ n. ltb 0 (entryAt v k n)) nameCount) (below-set (λ n. ltb 0 (entryAt w k n)) nameCount)
     (λ n l. has-is v k n ∙ ap (ltb 0) (h n l) ∙ sym (has-is w k n))
-
--- and the same items
-pub last-same : (v w : List ℕ) (k : ℕ) → ((n : ℕ) → n < nameCount → entryAt v k n ≡ entryAt w k n) → lastIn v k ≡ lastIn w k
-unfolding lastIn
-last-same v w k h =
-    ext-getD noItem (lastIn v k) (lastIn w k) (size v ∙ sym (size w)) (λ n l. last-is v k n ∙ ap itemIn (h n (omega (arith, size v))) ∙ sym (last-is w k n))
-  where
-    size : (u : List ℕ) → length (lastIn u k) ≡ nameCount
-    size u = over-length (λ n. itemIn (entryAt u k n)) nameCount

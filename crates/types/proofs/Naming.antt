@@ -1,6 +1,6 @@
 -- What is known of the names with one item more: the item's tests by its kind are the rules' (`is-struct` ..), and the columns are entered one after another,
--- the first c of them with the item and the others still without (`Partly`). With all of them entered, each is that of one item more; and of every column its
--- set and its items are the rules' (`set-is`, `lasts-is`).
+-- the first c of them with the item and the others still without (`Partly`). With all of them entered, each is that of one item more; and of every column the
+-- set is the rules' (`set-is`).
 -- Assumes nothing.
 use Prim.Native.Nat.{ℕ, zero, suc, _+_, _≤_, _<_}
 use mathlib.Core.Path.{_≡_, sym, _∙_}
@@ -13,15 +13,15 @@ use lib.Dec.{T, eqb, eqb→eq}
 use Rattle.rules.specs.Numbers.{Struct, Enum, CxxType, RustType, TypeAlias, nameCount, mostItems}
 use Rattle.rules.specs.Format.{Accepted}
 use Rattle.rules.specs.View.{typeKind, enumKind, functionKind, items, itemKind, itemIs, isEnumItem, isType, isFunction, itemName, typeTrusted}
-use Rattle.rules.specs.Collect.{namesTo, lastTo, entersStructs, entersEnums, entersCxx, entersRust, entersAliases, entersUntrusted}
+use Rattle.rules.specs.Collect.{namesTo, entersStructs, entersEnums, entersCxx, entersRust, entersAliases, entersUntrusted}
 use Rattle.laws.proofs.base.Counts.{Eq?, same, other, eq?}
 use Rattle.laws.proofs.base.Tests.{holds, or-cases, and-left}
 use Rattle.laws.proofs.sheet.Accepted.{type-named}
 use Rattle.laws.proofs.sheet.Accepted.Sheet.{sheet-of}
 use Rattle.laws.proofs.names.LastItems.{kind-type}
-use Rattle.names.specs.Known.{columnCount, tableSize, namesIn, lastIn, LastColumn, entered}
+use Rattle.names.specs.Known.{columnCount, tableSize, namesIn, LastColumn, entered}
 use Rattle.names.proofs.Columns.{entered-long}
-use Rattle.names.proofs.LastColumns.{names-are, lasts-are, column-start, column-skip, column-there, column-here}
+use Rattle.names.proofs.LastColumns.{names-are, column-start, column-skip, column-there, column-here}
 use Rattle.types.specs.Named.{Item, entersColumn, Named}
 
 -- ## The tests by kinds
@@ -93,9 +93,6 @@ module _ {s : List ℕ} (acc : Accepted s) {i : ℕ} (l : i ≤ items s) {w : Li
   pub set-is : namesIn w k ≡ namesTo s (entersColumn s k) i
   set-is =
       names-are s (entersColumn s k) i (let f = sheet-of s acc .few-items in omega arith) (λ j m t. enters-named s acc k j (omega arith) t) (h .column k c)
-
-  pub lasts-is : lastIn w k ≡ lastTo s (entersColumn s k) i
-  lasts-is = lasts-are (h .column k c)
 
 -- ## One item more
 

@@ -25,8 +25,9 @@ use Rattle.laws.proofs.report.Bounds.Reasons.{names-few, reasons-length, reason
 use Rattle.laws.proofs.names.LastItems.{Last, no-one, last, last-is}
 use Rattle.laws.proofs.base.Lists.{over-length}
 use Rattle.laws.proofs.names.Sets.{set-same, below-set, below-is}
-use Rattle.names.specs.Known.{typeColumn, columnCount, tableSize, entryAt, entryOf, namesIn, lastIn, countsIn, tabled}
-use Rattle.names.proofs.Columns.{entry-out, has-is, count-is, column-same, last-same}
+use Rattle.names.specs.Known.{typeColumn, columnCount, tableSize, entryAt, entryOf, LastColumn, namesIn, lastIn, countsIn, tabled}
+use Rattle.names.proofs.Columns.{entry-out, has-is, count-is, column-same}
+use Rattle.names.proofs.LastColumns.{lasts-are}
 use Rattle.scratch.specs.Bytes.{marksEnd, rowsOf, Grown}
 use Rattle.scratch.proofs.Zeroed.{cleared-length}
 use Rattle.scratch.proofs.Stored.{holds-none, holds-length, holds-row, rest-kept}
@@ -36,7 +37,7 @@ use Rattle.types.specs.Named.{entersColumn, Named, Nameable, Declared}
 use Rattle.types.specs.Reasons.{tally, Tallied, ofAll}
 use Rattle.types.specs.Post.{Collectable, Collects}
 use Rattle.types.proofs.AboutRules.{over-same}
-use Rattle.types.proofs.Naming.{named-none, set-is, lasts-is}
+use Rattle.types.proofs.Naming.{named-none, set-is}
 use Rattle.types.proofs.Counting.{tally-other, tally-counts}
 
 -- ## The start
@@ -108,6 +109,14 @@ module _ {s b d : List ℕ} {m : ℕ} (acc : Accepted s) (grown : Grown b d m (t
       let is : u ≡ tally w ns = h .is ∙ ap (tally w) (names-by (isExtern (tabled s w)) ∙ ap (λ (g : ℕ → Bool). reasonNames s g (typesOf s .all)) extern-is) in
       rw is (tally-counts ns w (named .long) (none-yet named) (omega arith) n l ∙ sym (reasons-are ns n l))
 
+  -- and the other columns are as they were
+  module _ {u : List ℕ} (h : Tallied w (ofAll s w d m) u) (k : ℕ) (ne : k ≡ requiredTrivialSet → ⊥) (c : k < columnCount) where
+    entries : (n : ℕ) → n < nameCount → entryAt u k n ≡ entryAt w k n
+    entries n l = ap (λ (v : List ℕ). entryAt v k n) (h .is) ∙ tally-other (ofAll s w d m) w k n ne c l
+
+    pub column-of : LastColumn s (entersColumn s k) (items s) u k
+    column-of = record { at = λ n l. entries n l ∙ named .column k c .at n l }
+
   -- and all is known
   pub known : {u : List ℕ} → Tallied w (ofAll s w d m) u → tabled s u ≡ typesOf s
   unfolding tabled typesOf
@@ -126,14 +135,11 @@ module _ {s b d : List ℕ} {m : ℕ} (acc : Accepted s) (grown : Grown b d m (t
         last-of typeColumn (λ e. omega arith) (omega arith),
       ) refl
     where
-      entries : (k : ℕ) → (k ≡ requiredTrivialSet → ⊥) → k < columnCount → (n : ℕ) → n < nameCount → entryAt u k n ≡ entryAt w k n
-      entries k ne c n l = ap (λ (v : List ℕ). entryAt v k n) (h .is) ∙ tally-other (ofAll s w d m) w k n ne c l
-
       kept : (k : ℕ) → (k ≡ requiredTrivialSet → ⊥) → k < columnCount → namesIn u k ≡ namesIn w k
-      kept k ne c = column-same u w k (entries k ne c)
+      kept k ne c = column-same u w k (entries h k ne c)
 
       last-of : (k : ℕ) → (k ≡ requiredTrivialSet → ⊥) → k < columnCount → lastIn u k ≡ lastTo s (entersColumn s k) (items s)
-      last-of k ne c = last-same u w k (entries k ne c) ∙ lasts-is acc (le-refl (items s)) named k c
+      last-of k ne c = lasts-are (column-of h k ne c)
 
 -- ## All together
 
@@ -146,6 +152,7 @@ whole {s} {b} {m = m} h c g l n t =
     let few : m ≡ length (typesOf s .all) = holds-length (g .held) in
     record {
       known = known (h .accepted) g (n .names) t;
+      columns = column-of (h .accepted) g (n .names) t;
       count = few;
       rows = λ k p. holds-row (g .held) k (omega arith);
       marks = g .held .marks;
