@@ -1,24 +1,23 @@
--- What the accessors ask: a pair at and past the end, and the two branches of `inner` and of `lifetimes_place`.
+-- What the accessors ask: a pair before and at the end, and the two branches of `inner` and of `lifetimes_place`.
 -- Assumes nothing.
 use Prim.Native.Nat.{ℕ, _+_, _-_, _*_, _≤_, _<_}
-use mathlib.Core.Path.{_≡_, refl}
+use mathlib.Core.Path.{_≡_, refl, sym, _∙_}
 use mathlib.Core.List.{List}
 use mathlib.Core.Bool.{Bool, true, false}
 use native.Mathlib.Omega.{arith}
 use lib.ListN.{length, getD, List·getD-eq-default}
-use borrow.Author.Tests.{le-leb, lt-leb}
+use lib.Dec.{leb}
+use borrow.Author.Tests.{le-leb, lt-leb, leb-false}
 use Rattle.rules.specs.Base.{if_then_else_}
 use Rattle.rules.specs.Format.{pairAt, offset}
 use Rattle.rules.specs.View.{kind, inner, itemPlace, isType, lifetimesPlace}
 
 module _ (s : List ℕ) (at : ℕ) where
-  pub pair-none : length s ≤ at → 0 ≡ pairAt s at
+  pub pair-cut : {b : Bool} {x : ℕ} → b ≡ leb (at + 2) (length s) → b ≡ false → x ≡ getD s at 0 → x ≡ pairAt s at
   unfolding pairAt
-  pair-none h = simp (List·getD-eq-default s 0 h, List·getD-eq-default s 0 {n = at + 1} (omega arith))
-
-  pub pair-low : length s - at < 2 → getD s at 0 ≡ pairAt s at
-  unfolding pairAt
-  pair-low h = rw (List·getD-eq-default s 0 {n = at + 1} (omega arith)) (omega arith)
+  pair-cut e h q =
+      let l = leb-false (at + 2) (length s) (sym e ∙ h) in
+      rw (q, List·getD-eq-default s 0 {n = at + 1} (omega arith)) (omega arith)
 
   pub pair-both : getD s at 0 + 256 * getD s (at + 1) 0 ≡ pairAt s at
   unfolding pairAt

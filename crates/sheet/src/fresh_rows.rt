@@ -4,16 +4,10 @@ ghost use lib.ListN.{getD};
 ghost use Prim.Native.Nat.{ℕ, _-_, _<_, _≤_};
 ghost use Rattle.rules.specs.Format.{sameBytes, equalRows, fresh};
 ghost use Rattle.sheet.specs.Keys.{mix, key, Kept, Sought, TwoKeys};
+use crate::byte_at;
 use crate::offset;
 use crate::pair_at;
 use rules::limit;
-
-// The byte at a place, and 0 past the end.
-fn byte_at(s: &[u8], at: usize) -> u8
-    ensures { λ r. ⌜ r ≡ getD (now (s .entry)) at 0 ⌝ }
-{
-    if at < s.len() { s[at] } else { 0 }
-}
 
 // What is left of a after b is taken away, if anything is.
 fn minus(a: usize, b: usize) -> usize

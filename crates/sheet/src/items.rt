@@ -1,5 +1,7 @@
 // The items.
 ghost use mathlib.Core.Path.{_≡_};
+ghost use Prim.Native.Nat.{_+_, _*_, _≤_};
+ghost use lib.ListN.{length};
 ghost use Rattle.rules.specs.View.{
   rows,
   items,
@@ -35,6 +37,7 @@ use crate::logic::and;
 use crate::logic::or;
 use crate::offset;
 use crate::pair_at;
+use crate::pair_within;
 use rules::item;
 
 // Flags 1, 2 and 4 of a sum.
@@ -135,6 +138,14 @@ pub fn entry(s: &[u8], at: u32, j: u16) -> u16
     ensures { λ x. ⌜ x ≡ entry (now (s .entry)) at j ⌝ }
 {
     pair_at(s, at as usize + 2 + 2 * (j as usize))
+}
+
+// The same, of a list that stands in the sheet.
+pub fn entry_within(s: &[u8], at: u32, j: u16) -> u16
+    requires { ⌜ at + 4 + 2 * j ≤ length (now s) ⌝ }
+    ensures { λ x. ⌜ x ≡ entry (now (s .entry)) at j ⌝ }
+{
+    pair_within(s, at as usize + 2 + 2 * (j as usize))
 }
 
 // The lifetimes: behind the name, or behind the name and flags of a function, or the row and flags of an impl.

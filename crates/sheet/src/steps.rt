@@ -1,11 +1,10 @@
 // The steps that every body is read by: a pair below a limit, a row or none, a list. Each goes from a place to the place after what it read,
 // or to a refusal; a `then_` step goes on from a step that may have been refused.
 ghost use mathlib.Core.Path.{_≡_};
-ghost use Prim.Native.Nat.{_+_};
-ghost use lib.Dec.{leb};
-ghost use lib.ListN.{length};
 ghost use Rattle.rules.specs.Format.{after, limited, orNone, list};
+use crate::has_pair;
 use crate::pair_at;
+use crate::pair_within;
 use rules::Step;
 use rules::derive;
 use rules::item;
@@ -26,23 +25,12 @@ pub const DERIVE_KINDS: u32 = derive::KINDS as u32;
 
 pub const VARIANT_COUNTS: u32 = limit::VARIANTS as u32 + 1;
 
-// Whether the sheet has a whole pair at a place.
-fn has_pair(s: &[u8], at: usize) -> bool
-    ensures { λ r. ⌜ r ≡ leb (at + 2) (length (now (s .entry))) ⌝ }
-{
-    let n = s.len();
-    if n < 2 {
-        return false;
-    }
-    at <= n - 2
-}
-
 // A pair below a limit, or the refusal `why` at the pair.
 pub fn limited(s: &[u8], why: u8, limit: u32, at: usize) -> Step
     ensures { λ r. ⌜ r ≡ limited (now (s .entry)) why limit at ⌝ }
 {
     if has_pair(s, at) {
-        if (pair_at(s, at) as u32) < limit {
+        if (pair_within(s, at) as u32) < limit {
             return Step::Next(at + 2);
         }
         return Step::Refused {

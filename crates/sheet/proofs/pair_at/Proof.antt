@@ -1,57 +1,36 @@
--- `sheet::pair_at` gives `pairAt` of the rules: by cases on how many of the two bytes stand before the end.
+-- `sheet::pair_at` gives `pairAt` of the rules: the whole pair where there is one, else the byte before the end, or 0.
 -- Assumes nothing.
-use Prim.Native.Nat.{_+_}
-use native.Mathlib.Omega.{arith}
-use Rattle.sheet.proofs.AccessorLaws.{pair-none, pair-low, pair-both}
+use Rattle.sheet.proofs.AccessorLaws.{pair-cut}
+use Rattle.sheet.proofs.StepLaws.{pair-fits}
 use borrow.Author.Needs.{needs}
 use Rattle.sheet.proofs.pair_at.Statement.{statement}
 use Rattle.sheet.proofs.pair_at.Tie as tie
 
+has-pair-requires : tie.Need-has-pair-requires
+has-pair-requires c κs = search needs
+
+pair-within-requires : tie.Need-pair-within-requires
+pair-within-requires c κs = search pair-fits
+
 returns : tie.Need-returns
-returns c = search pair-none
+returns c = search needs
 
-shared-slice-read-low : tie.Need-shared-slice-read-low
-shared-slice-read-low c = search needs
+byte-at-requires : tie.Need-byte-at-requires
+byte-at-requires c κs = search needs
 
-cast-low : tie.Need-cast-low
-cast-low c = omega (arith, c .shared-slice-known .given (c .before .before .args .at))
-
-sub-if2 : tie.Need-sub-if2
-sub-if2 c = search needs
+cast-result : tie.Need-cast-result
+cast-result c = search needs
 
 returns-2 : tie.Need-returns-2
-returns-2 c = search pair-low
-
-add-high : tie.Need-add-high
-add-high c = search needs
-
-shared-slice-read-high : tie.Need-shared-slice-read-high
-shared-slice-read-high c = search needs
-
-cast-high : tie.Need-cast-high
-cast-high c = omega (arith, c .shared-slice-known2 .given (c .before .before .before .before .args .at + 1))
-
-mul-result : tie.Need-mul-result
-mul-result c = omega (arith, c .shared-slice-known2 .given (c .before .before .before .before .args .at + 1))
-
-add-result : tie.Need-add-result
-add-result c = let at = c .before .before .before .before .args .at in omega (arith, c .shared-slice-known2 .given at, c .shared-slice-known2 .given (at + 1))
-
-returns-3 : tie.Need-returns-3
-returns-3 c = search pair-both
+returns-2 c = search pair-cut
 
 pub pair-at-spec : {M : Type 1} → statement M
 pair-at-spec =
     tie.close
     (tie.spec
+    has-pair-requires
+    pair-within-requires
     returns
-    shared-slice-read-low
-    cast-low
-    sub-if2
-    returns-2
-    add-high
-    shared-slice-read-high
-    cast-high
-    mul-result
-    add-result
-    returns-3)
+    byte-at-requires
+    cast-result
+    returns-2)

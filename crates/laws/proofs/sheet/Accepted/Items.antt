@@ -6,6 +6,7 @@ use mathlib.Core.List.{List}
 use mathlib.Core.Logic.{_⊎_, inl, inr}
 use mathlib.Core.Bool.{Bool, true, false, _||_, _&&_}
 use native.Mathlib.Omega.{arith}
+use lib.ListN.{length}
 use lib.Dec.{leb, eqb}
 use borrow.Author.Tests.{eqb-true}
 use Rattle.rules.specs.Numbers.{Ident, Struct, Enum, CxxType, RustType, CxxFunction, RustFunction, TypeAlias, Impl}
@@ -38,6 +39,7 @@ module _ (s : List ℕ) (i : ℕ) where
   pub record StructOf : Type 0 where
     pub few-fields : fieldCount s i ≤ 64
     pub field-below : (j : ℕ) → j < fieldCount s i → field s i j < rows s
+    pub fields-inside : (j : ℕ) → j < fieldCount s i → rest s i + 4 + 2 * j ≤ length s
 
   pub record EnumOf : Type 0 where
     pub repr-below : enumRepr s i < rows s
@@ -53,6 +55,7 @@ module _ (s : List ℕ) (i : ℕ) where
     pub return-below : RowOrNone (rows s) (return s i)
     pub few-args : argCount s i ≤ 16
     pub arg-below : (j : ℕ) → j < argCount s i → arg s i j < rows s
+    pub args-inside : (j : ℕ) → j < argCount s i → returnPlace s i + 2 + 4 + 2 * j ≤ length s
 
   pub record ImplOf : Type 0 where
     pub row-below : implRow s i < rows s
@@ -195,7 +198,7 @@ module _ (s : List ℕ) (acc : Accepted s) (i : ℕ) (l : i < items s) where
   struct-is k =
       let a = by-kind Struct (head-reads s then list-reads s 64 7 (rows s)) refl k in
       let e : a .0 ≡ rest s i = a .1 .1 ∙ head-ends in
-      record { few-fields = rw e at (a .2 .0 .few); field-below = rw e at (a .2 .0 .each) }
+      record { few-fields = rw e at (a .2 .0 .few); field-below = rw e at (a .2 .0 .each); fields-inside = rw e at (a .2 .0 .inside) }
 
   enum-is : itemKind s i ≡ Enum → EnumOf s i
   unfolding itemOf itemKinds enumRepr enumVariants enumDefaults
@@ -239,6 +242,7 @@ module _ (s : List ℕ) (acc : Accepted s) (i : ℕ) (l : i < items s) where
         return-below = rw there at (h .returns);
         few-args = rw there at (h .args .few);
         arg-below = rw there at (h .args .each);
+        args-inside = rw there at (h .args .inside);
       }
 
   function-is : (itemKind s i ≡ CxxFunction) ⊎ (itemKind s i ≡ RustFunction) → FunctionOf s i

@@ -46,10 +46,11 @@ pub nothing-read : Reads end (λ at q. q ≡ at)
 nothing-read = record { of = λ at h. sym (next-is h) }
 
 module _ (s : List ℕ) where
-  -- a list: its count is allowed, and so is each entry
+  -- a list: its count is allowed, and so is each entry, which stands inside the sheet
   pub record ListAt (most limit at : ℕ) : Type 0 where
     pub few : pairAt s at ≤ most
     pub each : (j : ℕ) → j < pairAt s at → entry s at j < limit
+    pub inside : (j : ℕ) → j < pairAt s at → at + 4 + 2 * j ≤ length s
 
   one-reads : (w : ℕ) (ok : ℕ → Bool) → Reads (one s w ok) (λ at q. (ok (pairAt s at) ≡ true) × (q ≡ at + 2))
   unfolding one
@@ -99,6 +100,14 @@ module _ (s : List ℕ) where
           → ((j : ℕ) → j < suc k → pairAt s (at + 2 * j) < n) × (q ≡ at + 2 * suc k)
       go at q a = (at-j at (a .0) (a .1 .0) (a .1 .1) (a .2 .0), omega (arith, a .1 .1, a .2 .1))
 
+  times-within : (w n k at : ℕ) {q : ℕ} → times s (limited s w n) k at ≡ Next q → (j : ℕ) → j < k → at + 2 + 2 * j ≤ length s
+  unfolding times
+  times-within w n zero at h j l = absurd (omega arith)
+  times-within w n (suc k) at h zero l = omega (arith, limited-within w n at (after-is (limited s w n at) (times s (limited s w n) k) h .1))
+  times-within w n (suc k) at h (suc j) l =
+      let a = after-is (limited s w n at) (times s (limited s w n) k) h in
+      omega (arith, limited-reads w n .of at (a .1) .1, times-within w n k (a .0) (a .2) j (omega arith))
+
   pub list-reads : (most w n : ℕ) → Reads (list s most w n) (λ at q. ListAt most n at × (q ≡ past s at))
   unfolding list past entry
   list-reads most w n =
@@ -107,7 +116,8 @@ module _ (s : List ℕ) where
             let a = after-is (limited s 6 (most + 1) at) (times s (limited s w n) (pairAt s at)) h in
             let b = limited-reads 6 (most + 1) .of at (a .1) in
             let c = times-reads w n (pairAt s at) .of (a .0) (a .2) in
-            (record { few = omega (arith, b .0); each = rw (b .1) at (c .0) }, rw (b .1) at (c .1));
+            let d = times-within w n (pairAt s at) (a .0) (a .2) in
+            (record { few = omega (arith, b .0); each = rw (b .1) at (c .0); inside = λ j l. omega (arith, b .1, d j l) }, rw (b .1) at (c .1));
       }
 
   -- a name, lifetimes and derives

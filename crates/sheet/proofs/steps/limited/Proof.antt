@@ -9,8 +9,8 @@ use Rattle.sheet.proofs.steps.limited.Tie as tie
 has-pair-requires : tie.Need-has-pair-requires
 has-pair-requires c κs = search needs
 
-pair-at-requires : tie.Need-pair-at-requires
-pair-at-requires c κs = search needs
+pair-within-requires : tie.Need-pair-within-requires
+pair-within-requires c κs = search pair-fits
 
 cast-if2 : tie.Need-cast-if2
 cast-if2 c = search needs
@@ -33,4 +33,4 @@ returns-3 c = search limited-cut
 pub limited-spec : {M : Type 1} → statement M
 limited-spec =
     tie.close
-    (tie.spec has-pair-requires pair-at-requires cast-if2 add-t9 returns returns-2 returns-3)
+    (tie.spec has-pair-requires pair-within-requires cast-if2 add-t9 returns returns-2 returns-3)

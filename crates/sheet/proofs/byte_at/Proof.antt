@@ -2,8 +2,8 @@
 -- Assumes nothing.
 use Rattle.sheet.proofs.FreshLaws.{byte-none}
 use borrow.Author.Needs.{needs}
-use Rattle.sheet.proofs.fresh_rows.byte_at.Statement.{statement}
-use Rattle.sheet.proofs.fresh_rows.byte_at.Tie as tie
+use Rattle.sheet.proofs.byte_at.Statement.{statement}
+use Rattle.sheet.proofs.byte_at.Tie as tie
 
 shared-slice-read-result : tie.Need-shared-slice-read-result
 shared-slice-read-result c = search needs
