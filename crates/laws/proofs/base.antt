@@ -9,3 +9,4 @@ pub mod Forms
 pub mod Flat
 pub mod Digits
 pub mod Right
+pub mod Words

@@ -5,6 +5,7 @@ pub mod RowSteps
 pub mod Tells
 pub mod Kinds
 pub mod Left
+pub mod Word
 pub mod TierPass
 pub mod RowTrees
 pub mod RowTable
