@@ -6,7 +6,7 @@ use mathlib.Core.Logic.{_≢_}
 use mathlib.Core.List.{List}
 use native.Mathlib.Omega.{arith}
 use lib.ListN.{getD}
-use Rattle.rules.specs.Numbers.{noItem, mostItems, mostRows, mostFields}
+use Rattle.rules.specs.Numbers.{noItem, mostItems, mostFields}
 use Rattle.rules.specs.Format.{pairAt}
 use Rattle.rules.specs.View.{rows, items, fieldCount, field, rest, entry}
 use Rattle.rules.specs.Rule3.{IsStruct}
@@ -16,7 +16,6 @@ use Rattle.laws.proofs.base.Counts.{Eq?, same, other, eq?}
 use Rattle.laws.proofs.names.LastItems.{struct-is}
 use Rattle.laws.proofs.sheet.Accepted.{few-items, field-row}
 use Rattle.laws.proofs.sheet.Accepted.Items.{item-of}
-use Rattle.laws.proofs.sheet.Accepted.Sheet.{sheet-of}
 use Rattle.laws.proofs.graph.SameEdges.{lead-at, table-good}
 use Rattle.toposort.specs.Leads.{Led, tableGraph}
 use Rattle.toposort.proofs.Parts.{Bounded}
@@ -53,15 +52,12 @@ module _ {s d : List ℕ} (own : Led s d) where
 
   -- ## Where a field leads, as the code reads it
 
-  pub few-rows : rows s ≤ mostRows
-  few-rows = sheet-of s (own .accepted) .few-rows
-
   module _ (i k at row : ℕ) (h : IsStruct s i) (a : at ≡ rest s i) (l : k < fieldCount s i) (r : row ≡ entry s at k) where
     row-is : row ≡ field s i k
     unfolding field
     row-is = rw a at r
 
-    pub row-below : row < rows s
+    row-below : row < rows s
     row-below = rw row-is (field-row s (own .accepted) i k h l)
 
     pub led-at : getD d row 0 ≡ leadBy s d (field s i k)

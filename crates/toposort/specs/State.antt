@@ -1,6 +1,6 @@
 -- What a part of the walk does to the walk's state.
 -- Assumes nothing: these are definitions.
-use Prim.Native.Nat.{ℕ, _+_, _*_, _^_, _<_, _≤_}
+use Prim.Native.Nat.{ℕ, _+_, _*_, _<_, _≤_}
 use mathlib.Core.Path.{_≡_}
 use mathlib.Core.List.{List}
 use lib.ListN.{length}
@@ -36,4 +36,4 @@ VisitsBy s d = Visits (tableGraph s d)
 -- what is left: a place in the order for each item that is not marked, and the number of a visit for each of its fields and for l more
 pub record Room (w : Walk) (l : ℕ) : Type 0 where
   pub len : w .len + fresh (w .marks) ≤ 255
-  pub calls : w .calls + 64 * fresh (w .marks) + l ≤ 2 ^ 32
+  pub calls : w .calls + 64 * fresh (w .marks) + l ≤ 65535

@@ -67,13 +67,19 @@ loop-again-2 c =
     let st = sym (c .before .is-struct .ensures) ∙ c .if1 .left in
     (l .inv .0, sorting-other (bounded own) (l .inv .1) (c .before .before .loop-test .taken) st)
 
+cast-t16 : tie.Need-cast-t16 Inv-loop μ-loop
+cast-t16 c = search needs
+
+cast-t17 : tie.Need-cast-t17 Inv-loop μ-loop
+cast-t17 c = search needs
+
 same-length : tie.Need-same-length Inv-loop μ-loop
-same-length c = c .before .before .loop .inv .0
+same-length c = c .before .before .before .before .loop .inv .0
 
 returns : tie.Need-returns Inv-loop μ-loop
 returns c =
-    let c5 = c .before .before .before .before .before in
-    sorted (c5 .pre) (c .before .before .loop .inv .1) (c .before .loop-test .left)
+    let c7 = c .before .before .before .before .before .before .before in
+    sorted (c7 .pre) (c .before .before .before .before .loop .inv .1) (c .before .before .before .loop-test .left)
 
 pub sort-spec : {M : Type 1} → statement M
 sort-spec =
@@ -89,5 +95,7 @@ sort-spec =
     loop-again
     loop-less-2
     loop-again-2
+    cast-t16
+    cast-t17
     same-length
     returns)

@@ -10,6 +10,7 @@ use Rattle.rules.specs.View.{fieldCount}
 use Rattle.rules.specs.Tiers.{largest}
 use Rattle.laws.specs.TierPass.{up}
 use Rattle.toposort.specs.Leads.{tableGraph, Ups}
+use Rattle.row_tables.proofs.ListLaws.{field-in}
 use Rattle.toposort.proofs.Edges.{counted-is, leads-below}
 use Rattle.toposort.proofs.TierTurns.{largest-turn}
 use Rattle.toposort.proofs.tier_from.Statement.{statement}
@@ -38,7 +39,13 @@ loop-holds c =
     (counted-is (a .s .now) (a .i) _ _ (c .before .rest .ensures) (c .pair-at .ensures), omega arith, λ t h. refl)
 
 leads-to-requires : tie.Need-leads-to-requires Inv-loop μ-loop
-leads-to-requires c κs = c .before .before .before .before .before .pre .0
+leads-to-requires c κs =
+    let c3 = c .before .before .before in
+    let c5 = c3 .before .before in
+    let a = c5 .args in
+    let h = c .before .loop .inv in
+    let own = c5 .pre .0 in
+    (own, field-in (a .s .now) (own .accepted) (a .i) _ _ (c5 .pre .1) (c3 .rest .ensures) (h .0) (c .before .loop .j) (c .loop-test .taken))
 
 add-j : tie.Need-add-j Inv-loop μ-loop
 add-j c = search needs
