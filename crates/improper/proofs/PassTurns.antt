@@ -41,6 +41,13 @@ hits-code w c h = rw (le-ltb c nameCount h, if_then_else_) (go (eqb c nameCount)
 
 -- ## The last struct of a name
 
+-- its fields begin at a place, and there are so many; what a row among them is
+pub record FieldsOf (s looks : List ℕ) (n at fields : ℕ) : Type 0 where
+  pub count : fields ≡ looksFields s (typesOf s) n
+  pub few : fields ≤ 64
+  pub small : (k row : ℕ) → row ≡ entry s at k → k < fields → row < mostRows
+  pub look : (k row : ℕ) → row ≡ entry s at k → k < fields → lookOf (getD looks row 0) ≡ looksLook s (typesOf s) n k
+
 -- i is what the table of names has for it
 module _ (s names looks : List ℕ) (given : Searchable s names looks) (n i : ℕ) (e : i ≡ structOf (tabled s names) n) where
   struct-is : i ≡ structOf (typesOf s) n
@@ -54,7 +61,7 @@ module _ (s names looks : List ℕ) (given : Searchable s names looks) (n i : �
     is-item : IsStruct s i
     is-item = of-last s n i (sym struct-is) ne .struct
 
-    pub fields-are : (at m : ℕ) → at ≡ rest s i → m ≡ pairAt s at → m ≡ looksFields s (typesOf s) n
+    fields-are : (at m : ℕ) → at ≡ rest s i → m ≡ pairAt s at → m ≡ looksFields s (typesOf s) n
     unfolding looksFields fieldCount if_then_else_
     fields-are at m a q = rw (← struct-is, ne-eqb i noItem ne, if_then_else_, ← a) q
 
@@ -62,7 +69,7 @@ module _ (s names looks : List ℕ) (given : Searchable s names looks) (n i : �
     unfolding looksFields if_then_else_
     counts = rw (← struct-is, ne-eqb i noItem ne, if_then_else_)
 
-    pub fields-few : looksFields s (typesOf s) n ≤ 64
+    fields-few : looksFields s (typesOf s) n ≤ 64
     fields-few = omega (arith, counts, item-of s (given .accepted) i (is-item .below) .as-struct (is-item .is-struct) .few-fields)
 
     -- field k of it
@@ -74,15 +81,26 @@ module _ (s names looks : List ℕ) (given : Searchable s names looks) (n i : �
       row-below : row < rows s
       row-below = rw row-is (field-row s (given .accepted) i k is-item (omega (arith, counts)))
 
-      pub row-small : row < mostRows
+      row-small : row < mostRows
       row-small = let few = given .rows .few in let below = row-below in omega arith
 
-      pub look-is : lookOf (getD looks row 0) ≡ looksLook s (typesOf s) n k
+      look-is : lookOf (getD looks row 0) ≡ looksLook s (typesOf s) n k
       unfolding looksLook
       look-is =
           given .rows .entries row row-below
           ∙ ap (λ (t : Types). lookRow s t (rows s) row) (given .own)
           ∙ ap (lookRow s (typesOf s) (rows s)) (row-is ∙ ap (λ x. field s x k) struct-is)
+
+    -- as they are read
+    pub fields-of : (at m : ℕ) → at ≡ rest s i → m ≡ pairAt s at → FieldsOf s looks n at m
+    fields-of at m a q =
+        let count : m ≡ looksFields s (typesOf s) n = fields-are at m a q in
+        record {
+          count = count;
+          few = omega (arith, count, fields-few);
+          small = λ k row r l. row-small at row k a r (omega (arith, count));
+          look = λ k row r l. look-is at row k a r (omega (arith, count));
+        }
 
 -- ## The fields
 

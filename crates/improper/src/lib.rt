@@ -3,6 +3,10 @@ ghost use mathlib.Core.Path.{_≡_};
 ghost use Rattle.rules.specs.Improper.{hits};
 ghost use Rattle.row_tables.specs.Tables.{lookOf};
 ghost use Rattle.improper.specs.Post.{Searchable, Passes, Searched};
+ghost use Rattle.improper.specs.Targets.{Ready};
+use crate::targets::Targets;
+use crate::targets::all_targets;
+use crate::targets::skips;
 use names::contains;
 use names::empty;
 use names::insert;
@@ -12,9 +16,12 @@ use row_tables::looks::IMPROPER;
 use rules::NameSet;
 use rules::item;
 use rules::limit::ROWS;
+use rules::name;
 use sheet::items::entry;
 use sheet::items::rest;
 use sheet::pair_at;
+
+mod targets; // where the fields of a name lead, and what a pass may skip by it
 
 // What a pass makes of the set, and whether it found a name.
 pub struct Pass {
@@ -32,9 +39,17 @@ fn hits(found: NameSet, look: u16) -> bool
     look == IMPROPER
 }
 
-// One pass over the names that have a struct and are not found yet. The first improper field decides for its struct.
-fn one_pass(s: &[u8], names: &Names, looks: &[u16; ROWS], before: NameSet) -> Pass
-    requires { ⌜ Searchable (now s) (now names) (now looks) ⌝ }
+// One pass over the names that have a struct and are not found yet. The first improper field decides for its struct. After the first pass a field that is
+// improper leads to a name found, so a struct that leads to none is skipped.
+fn one_pass(
+    s: &[u8],
+    names: &Names,
+    looks: &[u16; ROWS],
+    first: bool,
+    targets: &Targets,
+    before: NameSet,
+) -> Pass
+    requires { ⌜ Ready (now s) (now names) (now looks) first (now targets) (before .words) ⌝ }
     ensures { λ r. ⌜ Passes (now (s .entry)) (before .words) 256 (r .found .words) (r .new) ⌝ }
 {
     let mut found = before;
@@ -44,6 +59,9 @@ fn one_pass(s: &[u8], names: &Names, looks: &[u16; ROWS], before: NameSet) -> Pa
         let name = n;
         n += 1;
         if contains(found, name) {
+            continue 'structs;
+        }
+        if skips(first, targets, name, found) {
             continue 'structs;
         }
         let i = struct_of(names, name);
@@ -66,18 +84,25 @@ fn one_pass(s: &[u8], names: &Names, looks: &[u16; ROWS], before: NameSet) -> Pa
     Pass { found, new }
 }
 
-// The improper names: passes until one finds none.
+// The improper names: passes until one finds none. The table of targets is made once the first has found one.
 pub fn search(s: &[u8], names: &Names, looks: &[u16; ROWS]) -> NameSet
     requires { ⌜ Searchable (now s) (now names) (now looks) ⌝ }
     ensures { λ r. ⌜ Searched (now (s .entry)) (r .words) ⌝ }
 {
-    let mut found = empty();
-    let mut new = true;
+    let none: Targets = [[0; 4]; name::COUNT];
+    let start = empty();
+    let p = one_pass(s, names, looks, true, &none, start);
+    let mut found = p.found;
+    let mut new = p.new;
+    if !new {
+        return found;
+    }
+    let targets = all_targets(s, names, looks, found);
     while new {
-        let p = one_pass(s, names, looks, found);
-        let more = p.found;
+        let q = one_pass(s, names, looks, false, &targets, found);
+        let more = q.found;
         found = more;
-        new = p.new;
+        new = q.new;
     }
     found
 }

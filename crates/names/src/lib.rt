@@ -23,7 +23,7 @@ fn has_bit(word: u64, n: u16) -> bool
 }
 
 // The word of name n with its bit set.
-fn with_bit(word: u64, n: u16) -> u64
+pub fn with_bit(word: u64, n: u16) -> u64
     ensures { λ r. ⌜ r ≡ bitOr word (2 ^ (n % 64)) ⌝ }
 {
     let one: u64 = 1;
