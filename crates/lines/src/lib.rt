@@ -20,7 +20,7 @@ use rules::Answer;
 use rules::Diagnostic;
 use rules::NameSet;
 use rules::Verdict;
-use rules::size::WINDOW;
+use rules::size::PAGE;
 
 mod lists; // words, and numbers one after another
 mod numbers; // bytes and decimal numbers
@@ -104,7 +104,7 @@ fn put_structs(out: &mut [u8], at: usize, answer: Answer) -> usize
     put_tiers(out, a, &order, &tiers, n)
 }
 
-fn put_accepted(out: &mut [u8], answer: Answer, list: [Diagnostic; WINDOW], records: usize) -> usize
+fn put_accepted(out: &mut [u8], answer: Answer, list: [Diagnostic; PAGE], records: usize) -> usize
     requires { ⌜ (records ≤ printed) × (most ≤ length (now out)) ⌝ }
     ensures { λ r. ⌜ Put (now (out .entry)) 0 (acceptedText answer (take records list)) r (now (out .exit)) ⌝ }
     ensures { λ r. ⌜ r ≤ most ⌝ }
@@ -125,7 +125,7 @@ fn least(n: usize, most: usize) -> usize
 }
 
 // The text of an answer and of the records that the list has. Gives its length; 0, and writes nothing, where the buffer has no room for the longest text.
-pub fn write(out: &mut [u8], answer: Answer, list: [Diagnostic; WINDOW]) -> usize
+pub fn write(out: &mut [u8], answer: Answer, list: [Diagnostic; PAGE]) -> usize
     ensures { λ r. ⌜ Wrote (textOf answer (take (answer .total) list)) (now (out .entry)) r (now (out .exit)) ⌝ }
 {
     if out.len() < MOST {

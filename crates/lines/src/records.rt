@@ -11,7 +11,7 @@ use crate::numbers::put1;
 use errors::places;
 use rules::Diagnostic;
 use rules::Place;
-use rules::size::WINDOW;
+use rules::size::PAGE;
 
 fn put_place(out: &mut [u8], at: usize, p: Place) -> usize
     requires { ⌜ at + 12 ≤ length (now out) ⌝ }
@@ -45,7 +45,7 @@ fn put_record(out: &mut [u8], at: usize, d: Diagnostic) -> usize
 }
 
 // The first n records.
-pub fn put_records(out: &mut [u8], at: usize, list: [Diagnostic; WINDOW], n: usize) -> usize
+pub fn put_records(out: &mut [u8], at: usize, list: [Diagnostic; PAGE], n: usize) -> usize
     requires { ⌜ (n ≤ printed) × (at + 22 * n ≤ length (now out)) ⌝ }
     ensures { λ r. ⌜ Put (now (out .entry)) at (flatMap recordLine (take n list)) r (now (out .exit)) ⌝ }
     ensures { λ r. ⌜ r ≤ at + 22 * n ⌝ }

@@ -4,7 +4,7 @@ use mathlib.Core.Path.{_≡_}
 use Prim.Native.Nat.{ℕ}
 use mathlib.Core.List.{List}
 use lib.ListN.{replicate}
-use Rattle.rules.specs.Numbers.{windowSize}
+use Rattle.rules.specs.Numbers.{pageSize}
 use Rattle.rules.specs.declared.Diagnostic.{Diagnostic}
 use Rattle.rules.specs.declared.Answer.{Answer}
 use Rattle.bridge.specs.Call.{Called}
@@ -16,4 +16,4 @@ pub record Packed (a : Answer) (l : List Diagnostic) (r : Page) : Type 0 where
 
 -- the call, on a list of the record d
 pub record Paged (s scratch₀ : List ℕ) (d : Diagnostic) (r : Page) (scratch′ : List ℕ) : Type 0 where
-  pub called : Called s scratch₀ (replicate windowSize d) (r .answer) scratch′ (r .list)
+  pub called : Called s scratch₀ (replicate pageSize d) (r .answer) scratch′ (r .list)

@@ -4,15 +4,15 @@ ghost use Rattle.errors.specs.Records.{blank};
 ghost use Rattle.paged.specs.Paged.{Packed, Paged};
 use rules::Answer;
 use rules::Diagnostic;
-use rules::size::WINDOW;
+use rules::size::PAGE;
 
 // An answer, and its first records.
 pub struct Page {
     pub answer: Answer,
-    pub list: [Diagnostic; WINDOW],
+    pub list: [Diagnostic; PAGE],
 }
 
-fn pack(answer: Answer, list: [Diagnostic; WINDOW]) -> Page
+fn pack(answer: Answer, list: [Diagnostic; PAGE]) -> Page
     ensures { λ r. ⌜ Packed answer list r ⌝ }
 {
     Page { answer, list }
@@ -22,7 +22,7 @@ fn pack(answer: Answer, list: [Diagnostic; WINDOW]) -> Page
 fn call_on(sheet: &[u8], scratch: &mut [u8], d: Diagnostic) -> Page
     ensures { λ r. ⌜ Paged (now (sheet .entry)) (now (scratch .entry)) d r (now (scratch .exit)) ⌝ }
 {
-    let mut list = [d; WINDOW];
+    let mut list = [d; PAGE];
     let answer = bridge::call(sheet, scratch, &mut list);
     pack(answer, list)
 }

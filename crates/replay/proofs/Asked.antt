@@ -8,7 +8,7 @@ use native.Mathlib.Omega.{arith}
 use lib.ListN.{length, getD, take, replicate, length-take, length-replicate}
 use lib.Seq.{sets}
 use borrow.Author.Tests.{le-leb}
-use Rattle.rules.specs.Numbers.{scratchSize, windowSize, answerSize}
+use Rattle.rules.specs.Numbers.{scratchSize, pageSize, answerSize}
 use Rattle.rules.specs.declared.Step.{Step}
 use Rattle.rules.specs.declared.Step.the-variants.{Next, Refused}
 use Rattle.rules.specs.declared.Answer.{Answer}
@@ -40,7 +40,7 @@ recorded {k = k} {a} {y} code d p e f g h =
     let q = meant p (e ∙ numbers) in
     record { stored = sized q (sym (q .long)); reached = omega (arith, q .long) }
 
-pub laid : {a : Answer} {ds : List Diagnostic} {n r q : ℕ} {out out₁ out₂ : List ℕ} → roomy ≤ length out → n ≤ windowSize → Written a n out r out₁
+pub laid : {a : Answer} {ds : List Diagnostic} {n r q : ℕ} {out out₁ out₂ : List ℕ} → roomy ≤ length out → n ≤ pageSize → Written a n out r out₁
     → Put out₁ answerSize (flatMap recordBytes ds) q out₂ → Laid a ds n out out₂
 unfolding headed fitting if_then_else_
 laid {a} {ds} {n} {out = out} {out₁} h k w p =
@@ -82,15 +82,15 @@ page k m s sc out out′ a zs list n is-sc is-zs is-a is-list is-n l =
     ∙ ap (λ (x : Answer). sets out 0 (answerBytes x (length (take m ds)) ++ flatMap recordBytes (take m ds))) same
 
 pub told : {s sc out out′ : List ℕ} {a : Answer} (blank : Diagnostic) {list : List Diagnostic} {n : ℕ} → sc ≡ replicate scratchSize 0
-    → a ≡ call s sc (replicate windowSize blank) .answer → list ≡ call s sc (replicate windowSize blank) .list → n ≡ min (a .total) windowSize
+    → a ≡ call s sc (replicate pageSize blank) .answer → list ≡ call s sc (replicate pageSize blank) .list → n ≡ min (a .total) pageSize
     → Laid a (take n list) n out out′ → roomy ≤ length out → Told s out out′
 told {s} {sc} {out} {out′} {a} blank {list} {n} is-sc is-a is-list is-n l h =
     let zeros : length sc ≡ scratchSize = ap length is-sc ∙ length-replicate {A = ℕ} scratchSize 0 in
-    let blanks : length (replicate windowSize blank) ≡ windowSize = length-replicate windowSize blank in
+    let blanks : length (replicate pageSize blank) ≡ pageSize = length-replicate pageSize blank in
     record {
       bytes = λ _.
-          page scratchSize windowSize s sc out out′ a (replicate windowSize blank) list n zeros blanks is-a is-list is-n l
-          ∙ ap (λ (x : List ℕ). sets out 0 (layoutOf (call s x [] .answer) (take windowSize (recordsOf s scratchSize)))) is-sc;
+          page scratchSize pageSize s sc out out′ a (replicate pageSize blank) list n zeros blanks is-a is-list is-n l
+          ∙ ap (λ (x : List ℕ). sets out 0 (layoutOf (call s x [] .answer) (take pageSize (recordsOf s scratchSize)))) is-sc;
       untouched = λ g. absurd (omega arith);
     }
 

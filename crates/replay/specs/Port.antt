@@ -5,7 +5,7 @@ use mathlib.Core.Path.{_≡_}
 use mathlib.Core.List.{List, [], _++_, flatMap}
 use lib.ListN.{length, getD, take, replicate}
 use lib.Seq.{sets}
-use Rattle.rules.specs.Numbers.{scratchSize, windowSize, answerSize, recordSize}
+use Rattle.rules.specs.Numbers.{scratchSize, pageSize, answerSize, recordSize}
 use Rattle.rules.specs.declared.Step.{Step}
 use Rattle.rules.specs.declared.Step.the-variants.{Next, Refused}
 use Rattle.rules.specs.declared.Answer.{Answer}
@@ -23,11 +23,11 @@ pub record Laid (a : Answer) (ds : List Diagnostic) (n : ℕ) (out out′ : List
 
 -- the bytes of an answer with as many records as a list has places
 abbrev pub roomy : ℕ
-roomy = answerSize + recordSize * windowSize
+roomy = answerSize + recordSize * pageSize
 
 -- what the call answers, with the first records; nothing where the buffer has no room for so many
 pub record Told (s out out′ : List ℕ) : Type 0 where
-  pub bytes : roomy ≤ length out → out′ ≡ sets out 0 (layoutOf (call s (replicate scratchSize 0) [] .answer) (take windowSize (recordsOf s scratchSize)))
+  pub bytes : roomy ≤ length out → out′ ≡ sets out 0 (layoutOf (call s (replicate scratchSize 0) [] .answer) (take pageSize (recordsOf s scratchSize)))
   pub untouched : length out < roomy → out′ ≡ out
 
 -- ## The collected rows

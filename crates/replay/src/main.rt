@@ -9,8 +9,8 @@ use input::long_at;
 use input::take;
 use libc::STDOUT_FILENO;
 use rules::size::ANSWER;
+use rules::size::PAGE;
 use rules::size::SCRATCH;
-use rules::size::WINDOW;
 
 fn say(text: &[u8]) {
     io::write_all(STDOUT_FILENO, text);
@@ -133,13 +133,13 @@ fn collected_rows(buf: &mut [u8], rows: &[u8], count: usize) -> u8 {
     }
 }
 
-// The records, a count of at most rules::size::WINDOW and that many times eight bytes.
+// The records, a count of at most rules::size::PAGE and that many times eight bytes.
 fn records(buf: &mut [u8], ours: &[u8]) -> u8 {
     if take(buf, 4) < 4 {
         return ENDED;
     }
     let n = long_at(buf, 0);
-    if n > WINDOW as u32 {
+    if n > PAGE as u32 {
         return ENDED;
     }
     let bytes = 8 * n as usize;

@@ -210,9 +210,13 @@ mostVariants = 255
 abbrev pub scratchSize : ℕ
 scratchSize = 4096
 
--- records of which a list is filled by one run
-abbrev pub windowSize : ℕ
-windowSize = 4096
+-- records of a page: of a list by value
+abbrev pub pageSize : ℕ
+pageSize = 4096
+
+-- no report has so many records: it has fewer than its sheet has bytes
+abbrev pub reportSize : ℕ
+reportSize = mostBytes
 
 -- bytes of an answer before its records, and of a record
 abbrev pub answerSize : ℕ

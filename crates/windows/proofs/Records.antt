@@ -1,13 +1,13 @@
 -- From bytes back to diagnostics: what is read from the bytes of a list of records is the list, where each of its diagnostics fits a record's fields.
 -- Assumes nothing.
-use mathlib.Core.Path.{_≡_, refl, sym, _∙_, ap}
-use Prim.Native.Nat.{ℕ, zero, suc}
-use mathlib.Core.List.{List, [], _∷_, _++_, flatMap, append-assoc}
-use lib.ListN.{length, take, drop}
+use mathlib.Core.Path.{_≡_, refl, _∙_, ap}
+use Prim.Native.Nat.{ℕ, suc}
+use mathlib.Core.List.{List, _∷_, _++_, flatMap, append-assoc}
+use lib.ListN.{length}
 use Rattle.rules.specs.declared.Diagnostic.{Diagnostic}
 use Rattle.rules.specs.Diagnostics.{Small}
 use Rattle.laws.proofs.base.Forms.{All, none, more}
-use Rattle.errors.specs.Records.{recordBytes, recordAt, recordsIn}
+use Rattle.errors.specs.Records.{recordBytes, recordsIn}
 use Rattle.errors.proofs.Inverse.{record-back, records-more}
 
 pub records-back : {ds : List Diagnostic} → All Small ds → (l : List ℕ) → recordsIn (length ds) (flatMap recordBytes ds ++ l) ≡ ds
@@ -18,15 +18,3 @@ records-back (more {x = d} {xs = ds} p ps) l =
     ∙ records-more d (flatMap recordBytes ds ++ l) (length ds)
     ∙ ap {B = List Diagnostic} (λ (x : Diagnostic). x ∷ recordsIn (length ds) (flatMap recordBytes ds ++ l)) (record-back d p (flatMap recordBytes ds ++ l))
     ∙ ap {B = List Diagnostic} (λ (xs : List Diagnostic). d ∷ xs) (records-back ps l)
-
--- ## Parts of a list of such
-
-pub small-take : {ds : List Diagnostic} → All Small ds → (n : ℕ) → All Small (take n ds)
-small-take p zero = none
-small-take none (suc n) = none
-small-take (more p ps) (suc n) = more p (small-take ps n)
-
-pub small-drop : {ds : List Diagnostic} → All Small ds → (n : ℕ) → All Small (drop n ds)
-small-drop p zero = p
-small-drop none (suc n) = none
-small-drop (more p ps) (suc n) = small-drop ps n

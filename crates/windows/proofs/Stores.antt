@@ -1,17 +1,17 @@
--- Records stored at the places of a list, one after another, and the records of one window.
+-- Records stored at the places of a list, one after another, and the records that bytes hold.
 -- Assumes nothing.
 use mathlib.Core.Path.{_≡_, refl, sym, _∙_, ap}
-use Prim.Native.Nat.{ℕ, zero, suc, _<_, _≤_, _^_, _*_, _+_, _-_, _/_, min}
+use Prim.Native.Nat.{ℕ, zero, suc, _<_, _≤_, _*_, _+_, _-_, _/_}
 use native.Mathlib.Omega.{arith}
 use native.Mathlib.Decide.{decLe}
 use mathlib.Core.Bool.{Bool, true, false}
 use mathlib.Core.List.{List, [], _∷_, _++_, flatMap}
 use mathlib.Core.WellFounded.{WellFounded, InvImage·wf}
-use lib.ListN.{length, take, drop, set, length-append, length-drop, length-take, length-set}
-use lib.Seq.{sets, sets-eq, set-out, length-sets, take-all, take-append-le}
+use lib.ListN.{length, take, drop, set, length-append}
+use lib.Seq.{sets, sets-eq, length-sets, take-all, take-append-le}
 use lib.WfN.{Nat·lt-wfRel}
 use lib.Dec.{ltb}
-use borrow.Author.Tests.{ltb-true, ltb-false}
+use borrow.Author.Tests.{ltb-false}
 use Rattle.rules.specs.declared.Diagnostic.{Diagnostic}
 use Rattle.rules.specs.Diagnostics.{Small}
 use Rattle.laws.proofs.base.Forms.{All}
@@ -21,7 +21,7 @@ use Rattle.errors.specs.Sink.{kept}
 use Rattle.errors.proofs.Inverse.{record-in}
 use Rattle.errors.proofs.Window.{records-long}
 use Rattle.windows.specs.Windows.{pick, least2, least3, stored}
-use Rattle.windows.proofs.Records.{records-back, small-take}
+use Rattle.windows.proofs.Records.{records-back}
 
 -- ## One after another
 
@@ -78,38 +78,32 @@ module _ (ys : List Diagnostic) (at : ℕ) (bs : List ℕ) where
 pub up-to : (m : ℕ) → WellFounded (λ (i j : ℕ). m - i < m - j)
 up-to m = InvImage·wf (λ (i : ℕ). m - i) (Nat·lt-wfRel .wf)
 
--- ## One window: of the records ds, all that have room in zs
+-- ## Bytes in which all records ds have room: they are read back
 
-module _ (ds : List Diagnostic) (small : All Small ds) (zs : List ℕ) (k n : ℕ) (is-k : length zs ≡ 8 * k) (is-n : n ≡ length ds) where
-  abbrev front : List Diagnostic
-  front = take k ds
-
+module _ (ds : List Diagnostic) (small : All Small ds) (zs : List ℕ) (roomy : 8 * length ds ≤ length zs) where
   abbrev after : List ℕ
   after = kept 0 ds zs
 
-  places : length zs / 8 - 0 ≡ k
-  places = omega arith
+  all-kept : take (length zs / 8 - 0) ds ≡ ds
+  all-kept = take-all (length zs / 8 - 0) ds (omega arith)
 
-  after-is : after ≡ flatMap recordBytes front ++ drop (0 + length (flatMap recordBytes front)) zs
+  after-is : after ≡ flatMap recordBytes ds ++ drop (0 + length (flatMap recordBytes ds)) zs
   unfolding kept
   after-is =
-      let l : length front ≡ min k (length ds) = length-take k ds in
-      let b : length (flatMap recordBytes front) ≡ 8 * length front = records-long front in
-      ap (λ (m : ℕ). sets zs (8 * 0) (flatMap recordBytes (take m ds))) places ∙ sets-eq (flatMap recordBytes front) zs 0 (omega arith)
+      let b : length (flatMap recordBytes ds) ≡ 8 * length ds = records-long ds in
+      ap (λ (l : List Diagnostic). sets zs (8 * 0) (flatMap recordBytes l)) all-kept ∙ sets-eq (flatMap recordBytes ds) zs 0 (omega arith)
 
-  after-long : length after ≡ 8 * k
+  after-long : length after ≡ length zs
   unfolding kept
-  after-long = length-sets zs (8 * 0) (flatMap recordBytes (take (length zs / 8 - 0) ds)) ∙ is-k
+  after-long = length-sets zs (8 * 0) (flatMap recordBytes (take (length zs / 8 - 0) ds))
 
-  least-by : (t : Bool) → ltb n k ≡ t → pick t n k ≡ length front
-  least-by true e = let h : n < k = ltb-true n k e in let l : length front ≡ min k (length ds) = length-take k ds in omega arith
-  least-by false e = let h : k ≤ n = ltb-false n k e in let l : length front ≡ min k (length ds) = length-take k ds in omega arith
+  least-by : (t : Bool) → ltb (length ds) (length after / 8) ≡ t → pick t (length ds) (length after / 8) ≡ length ds
+  least-by true e = refl
+  least-by false e = let h : length after / 8 ≤ length ds = ltb-false (length ds) (length after / 8) e in omega (arith, after-long)
 
-  pub kept-stored : stored n after ≡ front
+  pub kept-stored : stored (length ds) after ≡ ds
   unfolding stored
   kept-stored =
-      let e : length after / 8 ≡ k = omega (arith, after-long) in
-      ap (λ (m : ℕ). recordsIn (least2 n m) after) e
-      ∙ ap (λ (m : ℕ). recordsIn m after) (least-by (ltb n k) refl)
-      ∙ ap (λ (b : List ℕ). recordsIn (length front) b) after-is
-      ∙ records-back (small-take small k) (drop (0 + length (flatMap recordBytes front)) zs)
+      ap (λ (m : ℕ). recordsIn m after) (least-by (ltb (length ds) (length after / 8)) refl)
+      ∙ ap (λ (b : List ℕ). recordsIn (length ds) b) after-is
+      ∙ records-back small (drop (0 + length (flatMap recordBytes ds)) zs)

@@ -1,11 +1,11 @@
--- The list is filled window by window, each of at most `windowSize` records.
+-- How many records are stored of some bytes, and which.
 -- Assumes nothing: these are definitions.
-use Prim.Native.Nat.{ℕ, _+_, _-_, _/_}
+use Prim.Native.Nat.{ℕ, _/_}
 use mathlib.Core.Bool.{Bool, true, false}
 use mathlib.Core.List.{List}
 use lib.Dec.{ltb}
 use lib.ListN.{length}
-use Rattle.rules.specs.Numbers.{windowSize, recordSize}
+use Rattle.rules.specs.Numbers.{recordSize}
 use Rattle.rules.specs.declared.Diagnostic.{Diagnostic}
 use Rattle.errors.specs.Records.{recordsIn}
 
@@ -18,10 +18,6 @@ least2 a b = pick (ltb a b) a b
 
 abbrev pub least3 : ℕ → ℕ → ℕ → ℕ
 least3 a b c = least2 (least2 a b) c
-
--- where the next window starts, by the report's length and the list's; `from` itself where there is none
-unfoldable pub nextOf : (total length from : ℕ) → ℕ
-nextOf total len from = pick (ltb windowSize (least2 total len - from)) (from + windowSize) from
 
 -- the first n records of some bytes, as many as they hold
 unfoldable pub stored : (n : ℕ) → (bytes : List ℕ) → List Diagnostic

@@ -1,13 +1,12 @@
-// Windows: a list is filled run by run, each run giving the records of one window, rules::size::WINDOW of them at most. The arithmetic of it, over numbers
+// Windows: of a report's records those from a number on, as many as have room, and the places of a list that they go to. The arithmetic of it, over numbers
 // alone: an answer is not handed on for its total.
 ghost use mathlib.Core.Path.{_≡_};
 ghost use Prim.Native.Nat.{_+_, _-_, _/_};
 ghost use Rattle.rules.specs.Numbers.{recordSize};
 ghost use Rattle.errors.specs.Records.{recordIn};
-ghost use Rattle.windows.specs.Windows.{least2, least3, nextOf};
+ghost use Rattle.windows.specs.Windows.{least2, least3};
 use rules::Diagnostic;
 use rules::size::RECORD;
-use rules::size::WINDOW;
 
 // The record for place i of the list, where the first record of the bytes belongs at place `at`.
 pub fn record_from(bytes: &[u8], at: usize, i: usize) -> Diagnostic
@@ -46,16 +45,4 @@ pub fn left(total: usize, from: usize) -> usize
     ensures { λ r. ⌜ r ≡ total - from ⌝ }
 {
     minus(total, from)
-}
-
-// Where the next window starts, of so many records and a list of so many places; `from` itself if there is none.
-pub fn next(total: usize, len: usize, from: usize) -> usize
-    ensures { λ r. ⌜ r ≡ nextOf total len from ⌝ }
-{
-    let end = least(total, len);
-    if WINDOW < minus(end, from) {
-        from + WINDOW
-    } else {
-        from
-    }
 }

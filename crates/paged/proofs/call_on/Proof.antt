@@ -45,7 +45,7 @@ use denote.Triple.Walked.{says, Stays, stay-none, stay-none-slice, gave-slice, w
 use denote.Triple.Walked.{walk-meets}
 use denote.Exit.{yes}
 use denote.Signature.{plain}
-use Rattle.rules.specs.Numbers.{windowSize}
+use Rattle.rules.specs.Numbers.{pageSize}
 use Rattle.rules.specs.declared.Diagnostic.{Diagnostic}
 use Rattle.rules.specs.declared.Answer.{Answer}
 use Rattle.bridge.specs.Call.{Called}
@@ -79,7 +79,7 @@ abbrev stayed : Stays (call-on.ended .signature .params) (call-on.ended .kept)
 stayed = (stay-none-slice (0 ∷ []) tt (plain (λ _. u8)) yes, (gave-slice (1 ∷ []) tt (plain (λ _. u8)), (stay-none (λ _. R) yes, tt)))
 
 abbrev K : ℕ
-K = windowSize
+K = pageSize
 
 -- the array has room
 buffer-room : Room R K

@@ -4,7 +4,7 @@ use borrow.Author.Needs.{needs}
 use mathlib.Core.Path.{_≡_}
 use native.Mathlib.Omega.{arith}
 use lib.ListN.{length, replicate, length-replicate}
-use Rattle.rules.specs.Numbers.{windowSize}
+use Rattle.rules.specs.Numbers.{pageSize}
 use Rattle.rules.specs.declared.Diagnostic.{Diagnostic}
 use Rattle.errors.specs.Records.{blank}
 use Rattle.lines.proofs.Whole.{wrote-meant}
@@ -30,8 +30,8 @@ returns c =
     let called = written .before .before .before .before .before in
     let sheet = called .before .before .before .before .args .sheet .now in
     let page = called .call .ensures .called in
-    let long : length (replicate {A = Diagnostic} windowSize blank) ≡ windowSize = length-replicate {A = Diagnostic} windowSize blank in
-    wrote-meant (written .write .ensures) (text-is sheet (replicate windowSize blank) _ _ (omega arith) (page .answer) (page .list))
+    let long : length (replicate {A = Diagnostic} pageSize blank) ≡ pageSize = length-replicate {A = Diagnostic} pageSize blank in
+    wrote-meant (written .write .ensures) (text-is sheet (replicate pageSize blank) _ _ (omega arith) (page .answer) (page .list))
 
 pub text-spec : {M : Type 1} → statement M
 text-spec = tie.close (tie.spec slice-aggregate-call call-requires write-requires same-length returns)

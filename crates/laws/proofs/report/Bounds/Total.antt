@@ -5,7 +5,7 @@ use mathlib.Core.Path.{_≡_, ap}
 use mathlib.Core.List.{List}
 use native.Mathlib.Omega.{arith}
 use lib.ListN.{length, getD, length-append}
-use Rattle.rules.specs.Numbers.{Struct}
+use Rattle.rules.specs.Numbers.{Struct, reportSize}
 use Rattle.rules.specs.declared.Place.the-variants.{I}
 use Rattle.rules.specs.Base.{over}
 use Rattle.rules.specs.Count.{count}
@@ -82,5 +82,5 @@ module _ (s : List ℕ) (acc : Accepted s) where
       step : (i : ℕ) → recordsOf s t i + start (rows s + i) ≤ start (suc (rows s + i)) + 2 → recordsOf s t i + start (rows s + i) ≤ start (rows s + suc i) + 2
       step i h = let e : rows s + suc i ≡ suc (rows s + i) = omega arith in rw e h
 
-  pub total-few : length (report s) < 32768
+  pub total-few : length (report s) < reportSize
   total-few = omega (arith, total-fits, sheet-of s acc .short)
