@@ -1,6 +1,6 @@
 -- The turns of a pass: over the fields of a name's last struct, and over the names.
 -- Assumes nothing.
-use Prim.Native.Nat.{ℕ, zero, suc, _+_, _-_, _≤_, _<_}
+use Prim.Native.Nat.{ℕ, zero, suc, _+_, _-_, _*_, _≤_, _<_}
 use mathlib.Core.Path.{_≡_, refl, sym, ap, _∙_}
 use mathlib.Core.Logic.{_≢_}
 use mathlib.Core.Bool.{Bool, true, false, _||_}
@@ -9,7 +9,7 @@ use native.Mathlib.Numerals.{add-one}
 use native.Mathlib.Omega.{arith}
 use borrow.Author.Tests.{le-ltb, ne-eqb}
 use lib.Dec.{eqb}
-use lib.ListN.{getD}
+use lib.ListN.{length, getD}
 use Rattle.rules.specs.Numbers.{noItem, nameCount, mostRows}
 use Rattle.rules.specs.Base.{if_then_else_}
 use Rattle.rules.specs.Format.{pairAt}
@@ -20,7 +20,7 @@ use Rattle.rules.specs.Improper.{Looks, fine, bad, lookRow, looksFields, looksL
 use Rattle.rules.specs.Rule3.{IsStruct}
 use Rattle.laws.proofs.names.LastItems.{of-last}
 use Rattle.laws.proofs.sheet.Accepted.{field-row}
-use Rattle.laws.proofs.sheet.Accepted.Items.{item-of}
+use Rattle.laws.proofs.sheet.Accepted.Items.{StructOf, item-of}
 use Rattle.names.specs.Known.{tabled}
 use Rattle.row_tables.specs.Tables.{lookOf}
 use Rattle.row_tables.proofs.NameLooks.{look-name}
@@ -45,6 +45,7 @@ hits-code w c h = rw (le-ltb c nameCount h, if_then_else_) (go (eqb c nameCount)
 pub record FieldsOf (s looks : List ℕ) (n at fields : ℕ) : Type 0 where
   pub count : fields ≡ looksFields s (typesOf s) n
   pub few : fields ≤ 64
+  pub inside : (k : ℕ) → k < fields → at + 4 + 2 * k ≤ length s
   pub small : (k row : ℕ) → row ≡ entry s at k → k < fields → row < mostRows
   pub look : (k row : ℕ) → row ≡ entry s at k → k < fields → lookOf (getD looks row 0) ≡ looksLook s (typesOf s) n k
 
@@ -69,8 +70,11 @@ module _ (s names looks : List ℕ) (given : Searchable s names looks) (n i : �
     unfolding looksFields if_then_else_
     counts = rw (← struct-is, ne-eqb i noItem ne, if_then_else_)
 
+    of-struct : StructOf s i
+    of-struct = item-of s (given .accepted) i (is-item .below) .as-struct (is-item .is-struct)
+
     fields-few : looksFields s (typesOf s) n ≤ 64
-    fields-few = omega (arith, counts, item-of s (given .accepted) i (is-item .below) .as-struct (is-item .is-struct) .few-fields)
+    fields-few = omega (arith, counts, of-struct .few-fields)
 
     -- field k of it
     module _ (at row k : ℕ) (a : at ≡ rest s i) (r : row ≡ entry s at k) (h : k < looksFields s (typesOf s) n) where
@@ -98,6 +102,7 @@ module _ (s names looks : List ℕ) (given : Searchable s names looks) (n i : �
         record {
           count = count;
           few = omega (arith, count, fields-few);
+          inside = λ k l. rw a (of-struct .fields-inside k (omega (arith, count, counts)));
           small = λ k row r l. row-small at row k a r (omega (arith, count));
           look = λ k row r l. look-is at row k a r (omega (arith, count));
         }

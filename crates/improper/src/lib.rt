@@ -17,7 +17,7 @@ use rules::NameSet;
 use rules::item;
 use rules::limit::ROWS;
 use rules::name;
-use sheet::items::entry;
+use sheet::items::entry_within;
 use sheet::items::rest;
 use sheet::pair_at;
 
@@ -72,7 +72,7 @@ fn one_pass(
         let fields = pair_at(s, at as usize);
         let mut k: u16 = 0;
         while k < fields {
-            let row = entry(s, at, k) as usize;
+            let row = entry_within(s, at, k) as usize;
             k += 1;
             if hits(found, looks[row]) {
                 found = insert(found, name);

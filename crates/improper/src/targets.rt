@@ -14,7 +14,7 @@ use rules::NameSet;
 use rules::item;
 use rules::limit::ROWS;
 use rules::name;
-use sheet::items::entry;
+use sheet::items::entry_within;
 use sheet::items::rest;
 use sheet::logic::or;
 use sheet::pair_at;
@@ -38,7 +38,7 @@ fn targets_of(s: &[u8], names: &Names, looks: &[u16; ROWS], n: u16) -> [u64; 4]
     let fields = pair_at(s, at as usize);
     let mut k: u16 = 0;
     while k < fields {
-        let row = entry(s, at, k) as usize;
+        let row = entry_within(s, at, k) as usize;
         k += 1;
         let look = looks[row];
         if look < 256 {

@@ -136,8 +136,8 @@ structs-again-4 c =
     let f : foundIn (sheet p) (structs .found .words) (structs .n) (loop .k) ≡ false = rw (h .0) at (h .3) in
     (omega arith, rw (h .0, h .1) (passes-not _ _ _ _ _ (structs .inv .1) (sym (contains .ensures) ∙ if1 .left) (rw e at f)))
 
-entry-requires : tie.Need-entry-requires Inv-loop μ-loop Inv-structs μ-structs
-entry-requires c κs = search needs
+entry-within-requires : tie.Need-entry-within-requires Inv-loop μ-loop Inv-structs μ-structs
+entry-within-requires c κs = fields (c .before .before) .inside _ (c .loop-test .taken)
 
 cast-row : tie.Need-cast-row Inv-loop μ-loop Inv-structs μ-structs
 cast-row c = search needs
@@ -149,7 +149,7 @@ mul-hits : tie.Need-mul-hits Inv-loop μ-loop Inv-structs μ-structs
 mul-hits c = search needs
 
 element-copy-out-hits : tie.Need-element-copy-out-hits Inv-loop μ-loop Inv-structs μ-structs
-element-copy-out-hits c = omega (arith, fields (c .before .before .before) .small _ _ (c .entry .ensures) (c .before .loop-test .taken))
+element-copy-out-hits c = omega (arith, fields (c .before .before .before) .small _ _ (c .entry-within .ensures) (c .before .loop-test .taken))
 
 hits-requires : tie.Need-hits-requires Inv-loop μ-loop Inv-structs μ-structs
 hits-requires c κs = search needs
@@ -169,7 +169,7 @@ module _ (c : tie.After-hits Inv-loop μ-loop Inv-structs μ-structs) where
   inside = omega (arith, fields p .count, c .before .before .before .loop-test .taken)
 
   hit-is : c .hits .result ≡ hits words (looksLook (sheet p) (typesOf (sheet p)) (name p) k)
-  hit-is = c .hits .ensures ∙ ap (hits words) (fields p .look k _ (c .before .before .entry .ensures) (c .before .before .before .loop-test .taken))
+  hit-is = c .hits .ensures ∙ ap (hits words) (fields p .look k _ (c .before .before .entry-within .ensures) (c .before .before .before .loop-test .taken))
 
 insert-requires : tie.Need-insert-requires Inv-loop μ-loop Inv-structs μ-structs
 insert-requires c κs = search needs
@@ -232,7 +232,7 @@ one-pass-spec =
     loop-holds
     structs-less-4
     structs-again-4
-    entry-requires
+    entry-within-requires
     cast-row
     add-k
     mul-hits

@@ -68,8 +68,8 @@ module _ (c : tie.After-pair-at Inv-loop μ-loop) where
       let some = c .before .before .if1 .left in
       fields-of sheet names looks given name (item .result) (item .ensures sheet) some _ _ (c .before .rest .ensures) (c .pair-at .ensures)
 
-entry-requires : tie.Need-entry-requires Inv-loop μ-loop
-entry-requires c κs = search needs
+entry-within-requires : tie.Need-entry-within-requires Inv-loop μ-loop
+entry-within-requires c κs = fields (c .before .before) .inside _ (c .loop-test .taken)
 
 cast-row : tie.Need-cast-row Inv-loop μ-loop
 cast-row c = search needs
@@ -81,7 +81,7 @@ mul-look : tie.Need-mul-look Inv-loop μ-loop
 mul-look c = search needs
 
 element-copy-out-look : tie.Need-element-copy-out-look Inv-loop μ-loop
-element-copy-out-look c = omega (arith, fields (c .before .before .before) .small _ _ (c .entry .ensures) (c .before .loop-test .taken))
+element-copy-out-look c = omega (arith, fields (c .before .before .before) .small _ _ (c .entry-within .ensures) (c .before .loop-test .taken))
 
 cast-q : tie.Need-cast-q Inv-loop μ-loop
 cast-q c = search needs
@@ -109,7 +109,7 @@ loop-again c =
     let loop = c .before .before .before .before .before .loop in
     let h = loop .inv in
     let next : loop .k + 1 ≤ c .before .before .before .before .before .before .pair-at .result = omega arith in
-    let entry = c .before .before .before .entry in
+    let entry = c .before .before .before .entry-within in
     let loop-test = c .before .before .before .before .loop-test in
     let look = fields (c .before .before .before .before .before .before) .look _ _ (entry .ensures) (loop-test .taken) in
     let took = took-name _ _ (c .before .if2 .taken) (c .with-bit .ensures) (h .0) in
@@ -123,7 +123,7 @@ loop-again-2 c =
     let loop = c .before .before .before .before .loop in
     let h = loop .inv in
     let next : loop .k + 1 ≤ c .before .before .before .before .before .pair-at .result = omega arith in
-    let entry = c .before .before .entry in
+    let entry = c .before .before .entry-within in
     let loop-test = c .before .before .before .loop-test in
     let look = fields (c .before .before .before .before .before) .look _ _ (entry .ensures) (loop-test .taken) in
     let took = took-none _ _ (c .if2 .left) (h .0) in
@@ -147,7 +147,7 @@ targets-of-spec =
     cast-pair-at
     pair-at-requires
     loop-holds
-    entry-requires
+    entry-within-requires
     cast-row
     add-k
     mul-look
