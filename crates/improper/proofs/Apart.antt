@@ -14,13 +14,9 @@ use lib.Bits.{bitAnd, and-step, and-shr}
 use lib.Dec.{eqb}
 use lib.ListN.{length, getD}
 use Rattle.rules.specs.Names.{Words, bitOf, _∋_}
-use Rattle.laws.proofs.base.Tests.{never}
+use Rattle.laws.proofs.base.Tests.{never, neither}
 use Rattle.names.proofs.Laws.{contains-not}
 use Rattle.improper.specs.Targets.{Apart}
-
-pub neither : (a b : Bool) → (a || b) ≡ false → (a ≡ false) × (b ≡ false)
-neither true b e = never (sym e)
-neither false b e = (refl, e)
 
 -- ## Bits
 

@@ -13,12 +13,11 @@ use Rattle.rules.specs.Names.{Words, _∋_, add}
 use Rattle.rules.specs.Types.{typesOf}
 use Rattle.rules.specs.Improper.{Look, fine, bad, to, Looks, looksFields, looksLook, looksOf, hits, isNew, passTo}
 use Rattle.laws.proofs.base.Counts.{Eq?, same, other, eq?}
-use Rattle.laws.proofs.base.Tests.{never}
+use Rattle.laws.proofs.base.Tests.{never, neither}
 use Rattle.laws.proofs.names.NameSets.{has-add}
 use Rattle.laws.proofs.names.ImproperSearch.{passed}
 use Rattle.improper.specs.Post.{Passes}
 use Rattle.improper.specs.Targets.{LeadsBelow, Skips, NoneBad, Later}
-use Rattle.improper.proofs.Apart.{neither}
 use Rattle.improper.proofs.PassTurns.{foundIn, found-start, found-on, found-hit}
 
 module _ (s : List ℕ) where

@@ -58,6 +58,10 @@ pub and-both : (a b : Bool) → T a → T b → T (a && b)
 and-both true b t u = u
 and-both false b t u = t
 
+pub neither : (a b : Bool) → (a || b) ≡ false → (a ≡ false) × (b ≡ false)
+neither true b e = never (sym e)
+neither false b e = (refl, e)
+
 pub or-false : (a : Bool) → (a || false) ≡ a
 or-false true = refl
 or-false false = refl
