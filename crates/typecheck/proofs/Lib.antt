@@ -2,4 +2,5 @@ pub mod ByKind
 pub mod Conjunction
 pub mod DeriveLaws
 pub mod Faults
+pub mod Faulty
 pub mod Meant

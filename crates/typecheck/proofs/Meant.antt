@@ -17,6 +17,7 @@ use Rattle.rules.specs.Types.{Types}
 use Rattle.rules.specs.Check.{check-struct-field, check-fn-arg, check-fn-return}
 use Rattle.laws.proofs.base.Tests.{never}
 use Rattle.laws.specs.Kinds.{RowOrNone}
+use Rattle.laws.specs.RowTable.{readAt}
 use Rattle.laws.proofs.sheet.Accepted.Items.{FunctionOf}
 use Rattle.row_tables.specs.Tables.{FaultRows}
 use Rattle.row_tables.proofs.FaultLaws.{fault-read}
@@ -31,7 +32,7 @@ over-same (suc n) f g h = rw (h n (omega arith), over-same n f g (λ k l. h k (o
 module _ (s : List ℕ) (t : Types) (u : List ℕ) (right : FaultRows s t u) (i : ℕ) where
   -- ## Fields
 
-  field-meant : (j : ℕ) → field s i j < rows s → structField u i j (field s i j) ≡ check-struct-field s t i j
+  field-meant : (j : ℕ) → field s i j < rows s → structField i j (readAt u (field s i j)) ≡ check-struct-field s t i j
   unfolding check-struct-field
   field-meant j l = rw (fault-read s t right (field s i j) l) (row-says s t (field s i j) (say 31 (F i j)) (tell 32 (F i j)))
 

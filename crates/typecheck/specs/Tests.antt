@@ -41,9 +41,9 @@ undeclared t n = not (isStruct t n) && not (isCxx t n) && not (isRust t n)
 unfoldable pub byFault : (fault : ℕ) (pointer unsized : List Diagnostic) → List Diagnostic
 byFault x p u = if eqb x 0 then [] else if eqb x fnFault then p else u
 
--- field j of struct i is row r
-abbrev pub structField : (faults : List ℕ) (i j r : ℕ) → List Diagnostic
-structField u i j r = byFault (readAt u r) (say 31 (F i j)) (tell 32 (F i j) (readAt u r))
+-- field j of struct i, by the fault of its row
+abbrev pub structField : (i j fault : ℕ) → List Diagnostic
+structField i j x = byFault x (say 31 (F i j)) (tell 32 (F i j) x)
 
 -- a function, with what each of its arguments asks of it
 abbrev pub functionOf : List ℕ → (i : ℕ) → Function
@@ -51,7 +51,7 @@ functionOf s i = record { item = i; rust = itemIs s RustFunction i; safe = not (
 
 module _ (s faults : List ℕ) where
   unfoldable pub structFields : (i : ℕ) → List Diagnostic
-  structFields i = over (fieldCount s i) (λ j. structField faults i j (field s i j))
+  structFields i = over (fieldCount s i) (λ j. structField i j (readAt faults (field s i j)))
 
   -- argument j is row r
   unfoldable pub functionArg : Function → (j r : ℕ) → List Diagnostic

@@ -1,9 +1,10 @@
 -- `typecheck::structs::check_api_struct` meets its contract: its parts report one after the other. Assumes nothing.
 use borrow.Author.Needs.{needs}
-use mathlib.Core.Path.{_∙_}
+use mathlib.Core.Path.{refl, _∙_}
 use Rattle.errors.specs.Sink.{also, also-if, meant}
 use Rattle.rules.specs.Check.{check-struct-derive, check-api-struct}
 use Rattle.laws.proofs.sheet.Accepted.Items.{item-of}
+use Rattle.row_tables.proofs.ListLaws.{struct-list}
 use Rattle.typecheck.specs.Derives.{derived, allDerived}
 use Rattle.typecheck.proofs.Meant.{fields-meant}
 use Rattle.typecheck.proofs.structs.check_api_struct.Statement.{statement}
@@ -28,7 +29,10 @@ check-derives-requires : tie.Need-check-derives-requires
 check-derives-requires c κs = search needs
 
 check-struct-fields-requires : tie.Need-check-struct-fields-requires
-check-struct-fields-requires c κs = search needs
+check-struct-fields-requires c κs =
+    let early = c .before .before .before .before .before .before .before .before .before .before .before .before in
+    let given = early .before .before .before .before .before .before .before .before .before .before .before .before .pre in
+    struct-list _ (given .accepted) _ _ _ (record { below = given .below; is-struct = given .struct }) refl refl
 
 same-length : tie.Need-same-length
 same-length c =

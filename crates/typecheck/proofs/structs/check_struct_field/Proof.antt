@@ -1,5 +1,6 @@
 -- `typecheck::structs::check_struct_field` meets its contract: each test that the code makes is that of the definition. Assumes nothing.
 use borrow.Author.Needs.{needs}
+use mathlib.Core.Path.{refl}
 use borrow.Author.Tests.{eq-eqb, ne-eqb}
 use Rattle.rules.specs.Diagnostics.{when}
 use Rattle.errors.specs.Sink.{silent, taken, left}
@@ -7,17 +8,9 @@ use Rattle.typecheck.specs.Tests.{byFault}
 use Rattle.typecheck.proofs.structs.check_struct_field.Statement.{statement}
 use Rattle.typecheck.proofs.structs.check_struct_field.Tie as tie
 
-fault-at-requires : tie.Need-fault-at-requires
-fault-at-requires c κs = search needs
-
 returns : tie.Need-returns
 unfolding byFault when
-returns c =
-    let fault-at = c .before .fault-at in
-    taken _ _ (eq-eqb _ _ (c .if1 .taken)) (silent _ _) (rw (fault-at .ensures))
-
-cast-if2 : tie.Need-cast-if2
-cast-if2 c = search needs
+returns c = taken _ _ (eq-eqb _ _ (c .if1 .taken)) (silent _ _) refl
 
 field-error-requires : tie.Need-field-error-requires
 field-error-requires c κs = search needs
@@ -28,11 +21,10 @@ same-length c = search needs
 returns-2 : tie.Need-returns-2
 unfolding byFault when
 returns-2 c =
-    let fault-at = c .before .before .before .before .before .before .fault-at in
     let if1 = c .before .before .before .before .before .if1 in
     let if2 = c .before .before .before .before .if2 in
     let field-error = c .before .before .field-error in
-    left _ _ (ne-eqb _ _ (if1 .left)) (taken _ _ (eq-eqb _ _ (if2 .taken)) (field-error .ensures) (rw (fault-at .ensures))) (rw (fault-at .ensures))
+    left _ _ (ne-eqb _ _ (if1 .left)) (taken _ _ (eq-eqb _ _ (if2 .taken)) (field-error .ensures) refl) refl
 
 field-error-requires-2 : tie.Need-field-error-requires-2
 field-error-requires-2 c κs = search needs
@@ -43,20 +35,16 @@ same-length-2 c = search needs
 returns-3 : tie.Need-returns-3
 unfolding byFault when
 returns-3 c =
-    let fault-at = c .before .before .before .before .before .before .fault-at in
     let if1 = c .before .before .before .before .before .if1 in
     let if2 = c .before .before .before .before .if2 in
     let field-error2 = c .before .before .field-error2 in
-    left _ _ (ne-eqb _ _ (if1 .left))
-    (left _ _ (ne-eqb _ _ (if2 .left)) (rw (fault-at .ensures) at (field-error2 .ensures)) (rw (fault-at .ensures))) (rw (fault-at .ensures))
+    left _ _ (ne-eqb _ _ (if1 .left)) (left _ _ (ne-eqb _ _ (if2 .left)) (field-error2 .ensures) refl) refl
 
 pub check-struct-field-spec : {M : Type 1} → statement M
 check-struct-field-spec =
     tie.close
     (tie.spec
-    fault-at-requires
     returns
-    cast-if2
     field-error-requires
     same-length
     returns-2
