@@ -1,4 +1,4 @@
--- What items show: where their rows stand, that these are rows of the sheet, and the walk over them by kinds.
+-- What items show: where their rows stand, that this is inside the sheet, that these are rows of the sheet, and the walk over them by kinds.
 -- Assumes nothing.
 use Prim.Native.Nat.{ℕ, zero, suc, _+_, _*_, _<_}
 use mathlib.Core.Path.{_≡_, refl, sym, ap, _∙_}
@@ -25,7 +25,7 @@ use Rattle.laws.specs.Kinds.{RowOrNone}
 use Rattle.laws.proofs.sheet.Accepted.Items.{item-of}
 use Rattle.laws.proofs.sheet.Collect.Shown.{shownBy-struct, shownBy-enum, shownBy-function, shownBy-impl, shownBy-other}
 use Rattle.scratch.specs.Bytes.{rowsOf, Grown}
-use Rattle.types.specs.Walk.{Held, Walks}
+use Rattle.types.specs.Walk.{Inside, Held, Walks}
 use Rattle.types.proofs.Walking.{still, wider, further}
 
 -- ## Places
@@ -48,6 +48,10 @@ module _ (s : List ℕ) (acc : Accepted s) (i : ℕ) (l : i < items s) where
   unfolding argCount arg
   args-below h e = rw e (item-of s acc i l .as-function h .arg-below)
 
+  pub args-inside : isFunction s i ≡ true → {at : ℕ} → at ≡ returnPlace s i → Inside s (at + 2)
+  unfolding argCount
+  args-inside h e = rw e (item-of s acc i l .as-function h .args-inside)
+
   pub return-below : isFunction s i ≡ true → {at x : ℕ} → at ≡ returnPlace s i → x ≡ pairAt s at → RowOrNone (rows s) x
   unfolding return
   return-below h e q = rw (q, e) (item-of s acc i l .as-function h .return-below)
@@ -55,6 +59,10 @@ module _ (s : List ℕ) (acc : Accepted s) (i : ℕ) (l : i < items s) where
   pub fields-below : {k at : ℕ} → k ≡ itemKind s i → k ≡ Struct → at ≡ rest s i → (j : ℕ) → j < pairAt s at → entry s at j < rows s
   unfolding fieldCount field
   fields-below p h e = rw e (item-of s acc i l .as-struct (sym p ∙ h) .field-below)
+
+  pub fields-inside : {k at : ℕ} → k ≡ itemKind s i → k ≡ Struct → at ≡ rest s i → Inside s at
+  unfolding fieldCount
+  fields-inside p h e = rw e (item-of s acc i l .as-struct (sym p ∙ h) .fields-inside)
 
   pub repr-below : {k x : ℕ} → k ≡ itemKind s i → k ≡ Enum → x ≡ enumRepr s i → x < rows s
   repr-below p h e = rw e (item-of s acc i l .as-enum (sym p ∙ h) .repr-below)

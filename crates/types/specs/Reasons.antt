@@ -1,18 +1,19 @@
 -- Reasons counted as the code counts them: in a column of the table of names, one more for each name of a list.
 -- Assumes nothing: these are definitions.
-use Prim.Native.Nat.{ℕ, _+_, _*_}
+use Prim.Native.Nat.{ℕ, _+_, _*_, _<_}
 use mathlib.Core.Path.{_≡_}
 use mathlib.Core.Bool.{true, not}
 use mathlib.Core.List.{List, [], _∷_, _++_}
 use lib.Dec.{ltb, eqb}
 use Rattle.rules.specs.Numbers.{noRow, requiredTrivialSet}
 use Rattle.rules.specs.Base.{if_then_else_, over}
-use Rattle.rules.specs.Format.{pairAt}
+use Rattle.rules.specs.Format.{pairAt, Accepted}
 use Rattle.rules.specs.View.{entry, items}
 use Rattle.rules.specs.Trivial.{insist, reasonsOfItem, reasonsOfRow}
 use Rattle.rules.specs.Types.{isExtern}
 use Rattle.names.specs.Known.{entryAt, tabled, entered}
 use Rattle.row_tables.specs.Tables.{WantRows}
+use Rattle.types.specs.Walk.{Inside}
 
 -- a count stops at its largest, so that no sum wraps and no caller owes a bound; no sheet has so many reasons
 abbrev pub mostReasons : ℕ
@@ -35,6 +36,22 @@ module _ (s w : List ℕ) where
   -- the table of the names that the rows want
   abbrev pub Wants : (table : List ℕ) → Type 0
   Wants table = WantRows s (tabled s w) table
+
+  -- what the reasons of the list at a place need: that table, and entries that stand in the sheet
+  pub record WantsList (table : List ℕ) (at : ℕ) : Type 0 where
+    pub wants : Wants table
+    pub inside : Inside s at
+
+  -- those of an item: that table, and an accepted sheet that has the item
+  pub record WantsItem (table : List ℕ) (i : ℕ) : Type 0 where
+    pub wants : Wants table
+    pub accepted : Accepted s
+    pub below : i < items s
+
+  -- and those of all items
+  pub record WantsItems (table : List ℕ) : Type 0 where
+    pub wants : Wants table
+    pub accepted : Accepted s
 
   abbrev pub ofPlain : (r : ℕ) → List ℕ
   ofPlain r = insist s (isExtern (tabled s w)) r

@@ -1,6 +1,6 @@
 -- The walk over the rows of a sheet: what it needs of the scratch, and what it leaves in it.
 -- Assumes nothing: these are definitions.
-use Prim.Native.Nat.{ℕ, _≤_, _<_}
+use Prim.Native.Nat.{ℕ, _+_, _*_, _≤_, _<_}
 use mathlib.Core.Path.{_≡_}
 use mathlib.Core.Bool.{true}
 use mathlib.Core.List.{List, _++_, foldl}
@@ -18,6 +18,10 @@ ofSignature s row = orNothing (fnReturn s row) ++ fnArgs s row
 
 abbrev pub ofFunction : (s : List ℕ) (i : ℕ) → List ℕ
 ofFunction s i = args s i ++ orNothing (return s i)
+
+-- the entries of the list at a place stand in the sheet
+abbrev pub Inside : (s : List ℕ) (at : ℕ) → Type 0
+Inside s at = (j : ℕ) → j < pairAt s at → at + 4 + 2 * j ≤ length s
 
 -- what a walk needs: an accepted sheet, and a scratch that holds what was collected so far
 pub record Held (s b : List ℕ) (n : ℕ) : Type 0 where
@@ -44,6 +48,7 @@ pub record WalkableOrNone (s b : List ℕ) (n row : ℕ) : Type 0 where
 pub record WalkableList (s b : List ℕ) (n at : ℕ) : Type 0 where
   pub walk : Held s b n
   pub below : (j : ℕ) → j < pairAt s at → entry s at j < rows s
+  pub inside : Inside s at
 
 -- or an item
 pub record WalkableItem (s b : List ℕ) (n i : ℕ) : Type 0 where

@@ -1,10 +1,14 @@
 // How many reasons there are for a C++ name to be trivial: `required_trivial_reasons` of trivial.rs.
 ghost use mathlib.Core.Path.{_≡_};
+ghost use Rattle.rules.specs.Format.{Accepted};
 ghost use Rattle.row_tables.specs.Tables.{oneOf};
 ghost use Rattle.types.specs.Reasons.{
   oneMore,
   Tallied,
   Wants,
+  WantsList,
+  WantsItem,
+  WantsItems,
   ofPlain,
   ofList,
   ofReturn,
@@ -55,13 +59,13 @@ fn insist(s: &[u8], names: &mut Names, wants: &[u16; ROWS], r: u16)
 
 // The reasons of the rows of the list at a place.
 fn insist_list(s: &[u8], names: &mut Names, wants: &[u16; ROWS], at: u32)
-    requires { ⌜ Wants (now s) (now names) (now wants) ⌝ }
+    requires { ⌜ WantsList (now s) (now names) (now wants) at ⌝ }
     ensures { λ _. ⌜ Tallied (now (names .entry)) (ofList (now (s .entry)) (now (names .entry)) at) (now (names .exit)) ⌝ }
 {
     let count = sheet::pair_at(s, at as usize);
     let mut j = 0;
     while j < count {
-        insist(s, names, wants, items::entry(s, at, j));
+        insist(s, names, wants, items::entry_within(s, at, j));
         j += 1;
     }
 }
@@ -79,7 +83,7 @@ fn insist_return(s: &[u8], names: &mut Names, wants: &[u16; ROWS], row: u16)
 
 // The reasons of item i: fields, or arguments and return.
 fn insist_item(s: &[u8], names: &mut Names, wants: &[u16; ROWS], i: u16)
-    requires { ⌜ Wants (now s) (now names) (now wants) ⌝ }
+    requires { ⌜ WantsItem (now s) (now names) (now wants) i ⌝ }
     ensures { λ _. ⌜ Tallied (now (names .entry)) (ofItem (now (s .entry)) (now (names .entry)) i) (now (names .exit)) ⌝ }
 {
     let k = items::item_kind(s, i);
@@ -111,7 +115,7 @@ fn insist_row(s: &[u8], names: &mut Names, wants: &[u16; ROWS], r: u16)
 
 // The reasons of all items.
 fn insist_items(s: &[u8], names: &mut Names, wants: &[u16; ROWS])
-    requires { ⌜ Wants (now s) (now names) (now wants) ⌝ }
+    requires { ⌜ WantsItems (now s) (now names) (now wants) ⌝ }
     ensures { λ _. ⌜ Tallied (now (names .entry)) (ofItems (now (s .entry)) (now (names .entry))) (now (names .exit)) ⌝ }
 {
     let count = items::items(s);
@@ -136,6 +140,7 @@ fn insist_rows(s: &[u8], names: &mut Names, wants: &[u16; ROWS], scratch: &[u8],
 
 // All reasons, those of the items first. Without a name in cxx there are none.
 pub fn required_trivial_reasons(s: &[u8], names: &mut Names, scratch: &[u8], n: usize)
+    requires { ⌜ Accepted (now s) ⌝ }
     ensures { λ _. ⌜ Tallied (now (names .entry)) (ofAll (now (s .entry)) (now (names .entry)) (now (scratch .entry)) n) (now (names .exit)) ⌝ }
 {
     if wants::no_cxx(names) {

@@ -93,7 +93,7 @@ fn visit_list(s: &[u8], scratch: &mut [u8], n: usize, at: u32) -> usize
     let count = sheet::pair_at(s, at as usize);
     let mut j = 0;
     while j < count {
-        let row = items::entry(s, at, j);
+        let row = items::entry_within(s, at, j);
         m = show(s, scratch, m, row);
         j += 1;
     }

@@ -4,7 +4,7 @@ use borrow.Author.Needs.{needs}
 use native.Mathlib.Omega.{arith}
 use borrow.Author.Tests.{not-true, not-false}
 use Rattle.types.proofs.Counting.{item-fields, item-none, item-function, wants-same}
-use Rattle.types.proofs.Showing.{place-small}
+use Rattle.types.proofs.Showing.{place-small, args-inside, fields-inside, is-function}
 use Rattle.types.proofs.reasons.insist_item.Statement.{statement}
 use Rattle.types.proofs.reasons.insist_item.Tie as tie
 
@@ -16,8 +16,9 @@ rest-requires c κs = search needs
 
 insist-list-requires : tie.Need-insist-list-requires
 insist-list-requires c κs =
-    let c₅ = c .before .before .before .before .before in
-    (c₅ .pre)
+    let c₂ = c .before .before in let c₃ = c₂ .before in let c₅ = c₃ .before .before in
+    let p = c₅ .pre in
+    record { wants = p .wants; inside = fields-inside _ (p .accepted) _ (p .below) (c₃ .item-kind .ensures) (c₂ .if1 .taken) (c .rest .ensures) }
 
 returns : tie.Need-returns
 returns c =
@@ -42,8 +43,10 @@ add-insist-list c =
 
 insist-list-requires-2 : tie.Need-insist-list-requires-2
 insist-list-requires-2 c κs =
-    let c₇ = c .before .before .before .before .before .before .before in
-    (c₇ .pre)
+    let c₁ = c .before in let c₂ = c₁ .before in let c₃ = c₂ .before in let c₅ = c₃ .before .before in let c₇ = c₅ .before .before in
+    let p = c₇ .pre in
+    let function = is-function _ _ (c₅ .item-kind .ensures) (c₃ .function-kind .ensures) (not-false _ (c₂ .if2 .left)) in
+    record { wants = p .wants; inside = args-inside _ (p .accepted) _ (p .below) function (c₁ .return-place .ensures) }
 
 cast-pair-at : tie.Need-cast-pair-at
 cast-pair-at c = search needs
@@ -54,7 +57,7 @@ pair-at-requires c κs = search needs
 insist-return-requires : tie.Need-insist-return-requires
 insist-return-requires c κs =
     let c₂ = c .before .before in let c₁₀ = c₂ .before .before .before .before .before .before .before .before in
-    wants-same (c₁₀ .args .s .now) (c₁₀ .args .wants .now) (c₂ .insist-list2 .ensures) (c₁₀ .pre)
+    wants-same (c₁₀ .args .s .now) (c₁₀ .args .wants .now) (c₂ .insist-list2 .ensures) (c₁₀ .pre .wants)
 
 returns-3 : tie.Need-returns-3
 returns-3 c =

@@ -24,8 +24,12 @@ loop-holds c = (omega arith, over-none _)
 
 insist-item-requires : tie.Need-insist-item-requires Inv-loop μ-loop
 insist-item-requires c κs =
-    let c₂ = c .before .before in let c₅ = c₂ .before .before .before in
-    wants-same (c₅ .args .s .now) (c₅ .args .wants .now) (c₂ .loop .inv .1) (c₅ .pre)
+    let c₁ = c .before in let c₂ = c₁ .before in let c₃ = c₂ .before in let c₅ = c₃ .before .before in
+    record {
+      wants = wants-same (c₅ .args .s .now) (c₅ .args .wants .now) (c₂ .loop .inv .1) (c₅ .pre .wants);
+      accepted = c₅ .pre .accepted;
+      below = rw (c₃ .items .ensures) at (c₁ .loop-test .taken);
+    }
 
 add-i : tie.Need-add-i Inv-loop μ-loop
 add-i c =

@@ -23,13 +23,15 @@ pair-at-requires c κs = tt
 loop-holds : tie.Need-loop-holds Inv-loop μ-loop
 loop-holds c = (omega arith, over-none _)
 
-entry-requires : tie.Need-entry-requires Inv-loop μ-loop
-entry-requires c κs = tt
+entry-within-requires : tie.Need-entry-within-requires Inv-loop μ-loop
+entry-within-requires c κs =
+    let c₁ = c .before in let c₂ = c₁ .before in let c₃ = c₂ .before in let c₅ = c₃ .before .before in
+    c₅ .pre .inside (c₂ .loop .j) (omega (arith, c₁ .loop-test .taken, c₃ .pair-at .ensures))
 
 insist-requires : tie.Need-insist-requires Inv-loop μ-loop
 insist-requires c κs =
     let c₃ = c .before .before .before in let c₆ = c₃ .before .before .before in
-    wants-same (c₆ .args .s .now) (c₆ .args .wants .now) (c₃ .loop .inv .1) (c₆ .pre)
+    wants-same (c₆ .args .s .now) (c₆ .args .wants .now) (c₃ .loop .inv .1) (c₆ .pre .wants)
 
 add-j : tie.Need-add-j Inv-loop μ-loop
 add-j c =
@@ -44,7 +46,8 @@ loop-again c =
     let c₁ = c .before in let c₃ = c₁ .before .before in let c₄ = c₃ .before in let c₇ = c₄ .before .before .before in
     let a = (c₇ .args) in
     let p = (c₄ .loop .inv .1) in
-    let q = tally-by (a .s .now) (λ f. insist (a .s .now) f (entry (a .s .now) (a .at) (c₄ .loop .j))) p (rw (c₁ .entry .ensures) at (c .insist .ensures)) in
+    let row = entry (a .s .now) (a .at) (c₄ .loop .j) in
+    let q = tally-by (a .s .now) (λ f. insist (a .s .now) f row) p (rw (c₁ .entry-within .ensures) at (c .insist .ensures)) in
     (omega (arith, (c₃ .loop-test .taken)), over-more (λ j. ofPlain (a .s .now) (a .names .now) (entry (a .s .now) (a .at) j)) (c₄ .loop .j) p q)
 
 returns : tie.Need-returns Inv-loop μ-loop
@@ -62,7 +65,7 @@ insist-list-spec =
     μ-loop
     pair-at-requires
     loop-holds
-    entry-requires
+    entry-within-requires
     insist-requires
     add-j
     loop-less

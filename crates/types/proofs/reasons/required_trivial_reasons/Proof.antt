@@ -26,7 +26,9 @@ wants-requires : tie.Need-wants-requires
 wants-requires c κs = search needs
 
 insist-items-requires : tie.Need-insist-items-requires
-insist-items-requires c κs = (c .before .before .wants .ensures)
+insist-items-requires c κs =
+    let c₂ = c .before .before in let c₉ = c₂ .before .before .before .before .before .before .before in
+    record { wants = c₂ .wants .ensures; accepted = c₉ .pre }
 
 insist-rows-requires : tie.Need-insist-rows-requires
 insist-rows-requires c κs =

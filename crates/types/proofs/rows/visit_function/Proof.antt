@@ -4,7 +4,7 @@ use borrow.Author.Needs.{needs}
 use native.Mathlib.Omega.{arith}
 use native.Mathlib.Nat.{le-refl}
 use Rattle.types.proofs.Walking.{held-next}
-use Rattle.types.proofs.Showing.{place-small, args-below, return-below, function-walk}
+use Rattle.types.proofs.Showing.{place-small, args-below, args-inside, return-below, function-walk}
 use Rattle.types.proofs.rows.visit_function.Statement.{statement}
 use Rattle.types.proofs.rows.visit_function.Tie as tie
 
@@ -20,7 +20,11 @@ visit-list-requires : tie.Need-visit-list-requires
 visit-list-requires c κs =
     let c₁ = c .before in let c₄ = c₁ .before .before .before in
     let p = c₄ .pre .ready in
-    record { walk = p .walk; below = args-below _ (p .walk .accepted) _ (p .below) (c₄ .pre .is-function) (c₁ .return-place .ensures) }
+    record {
+      walk = p .walk;
+      below = args-below _ (p .walk .accepted) _ (p .below) (c₄ .pre .is-function) (c₁ .return-place .ensures);
+      inside = args-inside _ (p .walk .accepted) _ (p .below) (c₄ .pre .is-function) (c₁ .return-place .ensures);
+    }
 
 cast-pair-at : tie.Need-cast-pair-at
 cast-pair-at c = search needs

@@ -1,7 +1,7 @@
 -- `types::rows::visit_item` meets its contract, by kinds of items.
 -- Assumes nothing.
 use borrow.Author.Needs.{needs}
-use Rattle.types.proofs.Showing.{fields-below, repr-below, impl-below, fields-walk, repr-walk, impl-walk, function-shown, none-shown}
+use Rattle.types.proofs.Showing.{fields-below, fields-inside, repr-below, impl-below, fields-walk, repr-walk, impl-walk, function-shown, none-shown}
 use Rattle.types.proofs.Showing.{is-enum, is-function}
 use Rattle.types.proofs.rows.visit_item.Statement.{statement}
 use Rattle.types.proofs.rows.visit_item.Tie as tie
@@ -16,7 +16,11 @@ visit-list-requires : tie.Need-visit-list-requires
 visit-list-requires c κs =
     let c₁ = c .before in let c₂ = c₁ .before in let c₃ = c₂ .before in let c₆ = c₃ .before .before .before in
     let p = (c₆ .pre) in
-    record { walk = p .walk; below = fields-below _ (p .walk .accepted) _ (p .below) (c₃ .item-kind .ensures) (c₂ .if1 .taken) (c₁ .rest .ensures) }
+    record {
+      walk = p .walk;
+      below = fields-below _ (p .walk .accepted) _ (p .below) (c₃ .item-kind .ensures) (c₂ .if1 .taken) (c₁ .rest .ensures);
+      inside = fields-inside _ (p .walk .accepted) _ (p .below) (c₃ .item-kind .ensures) (c₂ .if1 .taken) (c₁ .rest .ensures);
+    }
 
 same-length : tie.Need-same-length
 same-length c = search needs

@@ -24,8 +24,10 @@ pair-at-requires c κs = tt
 loop-holds : tie.Need-loop-holds Inv-loop μ-loop
 loop-holds c = (refl, omega arith, to-none _ (c .before .before .before .pre .walk .held))
 
-entry-requires : tie.Need-entry-requires Inv-loop μ-loop
-entry-requires c κs = search needs
+entry-within-requires : tie.Need-entry-within-requires Inv-loop μ-loop
+entry-within-requires c κs =
+    let c₁ = c .before in let c₂ = c₁ .before in let c₅ = c₂ .before .before .before in
+    c₅ .pre .inside (c₁ .loop .j) (omega (arith, c .loop-test .taken, c₂ .pair-at .ensures))
 
 show-requires : tie.Need-show-requires Inv-loop μ-loop
 show-requires c κs =
@@ -34,7 +36,7 @@ show-requires c κs =
     let l = c₃ .loop in
     let g = c₂ .loop-test .taken in
     let x = p .below (l .j) (omega (arith, (c₄ .pair-at .ensures))) in
-    let e = c₁ .entry .ensures in
+    let e = c₁ .entry-within .ensures in
     record { walk = held-next (p .walk) (l .inv .2 .grown _ (le-refl _) .held) (l .inv .0); below = omega arith }
 
 add-j : tie.Need-add-j Inv-loop μ-loop
@@ -51,7 +53,7 @@ loop-again c =
     let l = c₆ .loop in
     let g = c₅ .loop-test .taken in
     let x = p .below (l .j) (omega (arith, (c₇ .pair-at .ensures))) in
-    let e = c₄ .entry .ensures in
+    let e = c₄ .entry-within .ensures in
     let v = c₂ .show in
     (v .kept .1 .0 ∙ l .inv .0, omega arith, to-more _ (l .j) (l .inv .2) e (omega arith) (v .ensures))
 
@@ -72,7 +74,7 @@ visit-list-spec =
     μ-loop
     pair-at-requires
     loop-holds
-    entry-requires
+    entry-within-requires
     show-requires
     add-j
     loop-less
