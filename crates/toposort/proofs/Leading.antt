@@ -39,10 +39,6 @@ leads-nowhere x e = eqb-true x noItem (go (eqb x noItem) e)
 leads-on : (x : ℕ) → not (eqb x noItem) ≡ true → x ≡ noItem → ⊥
 leads-on x e q = never (rw (eq-eqb x noItem q) at e)
 
-positive : (n : ℕ) → (n ≡ 0 → ⊥) → 0 < n
-positive zero f = absurd (f refl)
-positive (suc n) f = omega arith
-
 -- fields that lead nowhere are done
 going-skip : {G : Graph} (lim : Bounded G) {b o : List ℕ} {i : ℕ} {v₀ : Walk} {n k : ℕ} {b′ o′ : List ℕ} {v : Walk} → Going G b o i v₀ n k b′ o′ v → (z : ℕ)
     → ((j : ℕ) → j < z → G .to i (k + j) ≡ noItem) → k + z ≤ n → Going G b o i v₀ n (k + z) b′ o′ v
@@ -69,11 +65,11 @@ module _ {G : Graph} (lim : Bounded G) {b o : List ℕ} {i : ℕ} {v₀ : Walk} 
 
   -- a turn, which skips z fields
   module _ (some : left ≡ 0 → ⊥) (z : ℕ) (q : z ≡ trailingZeros 64 left) where
-    next : NextOf (leading G i) k (n - k) left z
-    next = rw (q, t .word) (next-of (leading G i) 64 k (n - k) (omega (arith, t .few)) (positive _ (λ e. some (t .word ∙ e))))
+    next : NextOf (leading G i) k n left z
+    next = next-of (leading G i) k n left z (t .few) (t .word) some q
 
     pub turn-below : k + z < n
-    turn-below = omega (arith, next .within)
+    turn-below = next .within
 
     pub turn-going : Going G b o i v₀ n (k + z) b′ o′ v
     turn-going = going-skip lim (t .going) z (λ j l. leads-nowhere (G .to i (k + j)) (next .before j l)) (omega (arith, next .within))
@@ -83,13 +79,7 @@ module _ {G : Graph} (lim : Bounded G) {b o : List ℕ} {i : ℕ} {v₀ : Walk} 
 
     pub turn-on : (r : Walk) (b″ o″ : List ℕ) (rest : ℕ) → rest ≡ left / 2 ^ z / 2 → Steps G b′ o′ v i (k + z) r b″ o″
         → Turning G b o i v₀ n (k + z + 1) rest b″ o″ r
-    turn-on r b″ o″ rest e step =
-        let m : n - k - (z + 1) ≡ n - (k + z + 1) = omega arith in
-        record {
-          going = going-on lim turn-going r b″ o″ turn-below step;
-          few = t .few;
-          word = e ∙ rw m at (next .behind);
-        }
+    turn-on r b″ o″ rest e step = record { going = going-on lim turn-going r b″ o″ turn-below step; few = t .few; word = e ∙ next .behind }
 
 -- the word that the code begins with
 pub all-leading : {s d : List ℕ} (own : Led s d) (i at n w : ℕ) → IsStruct s i → at ≡ rest s i → n ≡ fieldCount s i

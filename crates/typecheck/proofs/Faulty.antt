@@ -3,7 +3,7 @@
 -- Assumes nothing.
 use Prim.Native.Nat.{ℕ, zero, suc, _+_, _-_, _/_, _^_, _≤_, _<_}
 use mathlib.Core.Path.{_≡_, refl, sym, _∙_}
-use mathlib.Core.List.{List, [], append-nil}
+use mathlib.Core.List.{List, []}
 use mathlib.Core.Bool.{false}
 use native.Mathlib.Omega.{arith}
 use lib.Count.{trailingZeros}
@@ -15,20 +15,13 @@ use Rattle.rules.specs.Format.{pairAt}
 use Rattle.rules.specs.View.{rest, fieldCount, field, entry}
 use Rattle.laws.specs.RowTable.{readAt}
 use Rattle.laws.specs.Word.{wordOf}
+use Rattle.laws.proofs.base.Lists.{over-skip}
 use Rattle.laws.proofs.base.Words.{NextOf, next-of, word-none}
 use Rattle.laws.proofs.rows.RowTable.{read-in}
 use Rattle.row_tables.specs.Listed.{ListIn, unlikeAt}
 use Rattle.errors.specs.declared.Errors.{Errors}
 use Rattle.errors.specs.Sink.{Reported, meant}
 use Rattle.typecheck.specs.Tests.{byFault, structField, structFields}
-
--- entries that give nothing
-over-skip : {A : Type 0} (f : ℕ → List A) (k z : ℕ) → ((j : ℕ) → j < z → f (k + j) ≡ []) → over k f ≡ over (k + z) f
-unfolding over
-over-skip f k zero h = let e : k + 0 ≡ k = omega arith in rw e
-over-skip f k (suc z) h =
-    let e : k + suc z ≡ suc (k + z) = omega arith in
-    rw (e, h z (omega arith)) (over-skip f k z (λ j l. h j (omega arith)) ∙ sym (append-nil _))
 
 -- the messages of field j of struct i
 abbrev pub fieldSays : (s faults : List ℕ) (i j : ℕ) → List Diagnostic
@@ -44,7 +37,7 @@ pub record FaultsLeft (s u : List ℕ) (i at n k left : ℕ) : Type 0 where
 
 -- field k + z is the next that has a fault
 abbrev pub Next : (s u : List ℕ) (at n k left z : ℕ) → Type 0
-Next s u at n k left z = NextOf (unlikeAt s u at 0) k (n - k) left z
+Next s u at n k left z = NextOf (unlikeAt s u at 0) k n left z
 
 module _ (s : List ℕ) (i : ℕ) {at n : ℕ} (h : ListIn s (rest s i) (fieldCount s i)) (a : at ≡ rest s i) (q : n ≡ pairAt s at) where
   pub fields-in : ListIn s at n
@@ -69,24 +62,11 @@ module _ {s u : List ℕ} {i at n k left : ℕ} (f : FaultsLeft s u i at n k lef
       rw none refl
 
   pub next-fault : {z : ℕ} → (left ≡ 0 → ⊥) → z ≡ trailingZeros 64 left → Next s u at n k left z
-  next-fault h g =
-      let some : 0 < wordOf (unlikeAt s u at 0) k (n - k) = rw (f .word) at (more left h) in
-      rw (g, f .word) (next-of (unlikeAt s u at 0) 64 k (n - k) (omega (arith, f .list .few)) some)
-    where
-      more : (x : ℕ) → (x ≡ 0 → ⊥) → 0 < x
-      more zero h = absurd (h refl)
-      more (suc x) h = omega arith
+  next-fault {z} h g = next-of (unlikeAt s u at 0) k n left z (f .list .few) (f .word) h g
 
   pub less-left : {z w : ℕ} → Next s u at n k left z → w ≡ left / 2 ^ z / 2 → FaultsLeft s u i at n (k + z + 1) w
-  less-left {z} next e =
-      let others : n - k - (z + 1) ≡ n - (k + z + 1) = omega arith in
-      record {
-        place = f .place;
-        count = f .count;
-        list = f .list;
-        within = omega (arith, next .within);
-        word = e ∙ (rw others at (next .behind));
-      }
+  less-left next e =
+      record { place = f .place; count = f .count; list = f .list; within = omega (arith, next .within); word = e ∙ next .behind }
 
   module _ {b b′ : List ℕ} {cx cx′ : Errors} (so-far : Reported b cx (over k (fieldSays s u i)) cx′ b′) where
     pub to-next : {z : ℕ} → Next s u at n k left z → Reported b cx (over (k + z) (fieldSays s u i)) cx′ b′

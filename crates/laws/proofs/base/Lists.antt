@@ -1,8 +1,8 @@
--- A list of one entry for each number below n: its length, and entry x of it. The list as the call leaves it and the answer's 255 places, a list and then
+-- A list of one entry for each number below n: its length, and entry x of it; and of several, without those that give none. The list as the call leaves it and the answer's 255 places, a list and then
 -- zeros, are runs of stores from the first place on (Stores); the places stand here by entries too.
 -- Assumes nothing.
 use mathlib.Core.Path.{_≡_, refl, sym, ap, _∙_}
-use mathlib.Core.List.{List, [], _∷_, _++_}
+use mathlib.Core.List.{List, [], _∷_, _++_, append-nil}
 use Prim.Native.Nat.{ℕ, zero, suc, _+_, _-_, _≤_, _<_}
 use native.Mathlib.Omega.{arith}
 use native.Mathlib.Decide.{decLt}
@@ -13,6 +13,14 @@ use Rattle.rules.specs.Base.{over}
 use Rattle.rules.specs.Answer.{places, filled}
 use Rattle.laws.proofs.base.Counts.{Eq?, same, other, eq?}
 use Rattle.laws.proofs.base.Stores.{sets-first}
+
+-- entries that give nothing
+pub over-skip : {A : Type 0} (f : ℕ → List A) (k z : ℕ) → ((j : ℕ) → j < z → f (k + j) ≡ []) → over k f ≡ over (k + z) f
+unfolding over
+over-skip f k zero h = let e : k + 0 ≡ k = omega arith in rw e
+over-skip f k (suc z) h =
+    let e : k + suc z ≡ suc (k + z) = omega arith in
+    rw (e, h z (omega arith)) (over-skip f k z (λ j l. h j (omega arith)) ∙ sym (append-nil _))
 
 module _ {A : Type 0} (f : ℕ → A) where
   pub over-length : (n : ℕ) → length (over n (λ j. f j ∷ [])) ≡ n

@@ -12,12 +12,19 @@ use Rattle.rules.specs.Diagnostics.{bit}
 use Rattle.laws.specs.Word.{wordOf}
 use Rattle.laws.proofs.base.Tests.{both}
 
--- z entries from k on fail, and the one behind them passes; w is the word of m entries from k on
-pub record NextOf (p : ℕ → Bool) (k m w z : ℕ) : Type 0 where
-  pub within : z < m
+-- of n entries, with those from k on in the word w: z of these fail, the one behind them passes, and behind that one the word goes on
+pub record NextOf (p : ℕ → Bool) (k n w z : ℕ) : Type 0 where
+  pub within : k + z < n
   pub before : (j : ℕ) → j < z → p (k + j) ≡ false
   pub passes : p (k + z) ≡ true
-  pub behind : w / 2 ^ z / 2 ≡ wordOf p (k + z + 1) (m - (z + 1))
+  pub behind : w / 2 ^ z / 2 ≡ wordOf p (k + z + 1) (n - (k + z + 1))
+
+-- the same, of m entries from k on
+record Low (p : ℕ → Bool) (k m w z : ℕ) : Type 0 where
+  within : z < m
+  before : (j : ℕ) → j < z → p (k + j) ≡ false
+  passes : p (k + z) ≡ true
+  behind : w / 2 ^ z / 2 ≡ wordOf p (k + z + 1) (m - (z + 1))
 
 pub bit-le : (b : Bool) → bit b ≤ 1
 bit-le true = omega arith
@@ -55,9 +62,9 @@ module _ (p : ℕ → Bool) where
   word-same q k (suc m) h = rw (h k (omega arith) (omega arith), word-same q (suc k) m (λ j a b. h j (omega arith) (omega arith)))
 
   -- one entry more at the low end
-  next-step : (k m w t : ℕ) (b : Bool) → p k ≡ b → w ≡ wordOf p (suc k) m → (0 < w → NextOf p (suc k) m w t) → 0 < bit b + 2 * w
-      → NextOf p k (suc m) (bit b + 2 * w) (under ((bit b + 2 * w) % 2) t)
-  next-step k m w t true e q n h =
+  low-step : (k m w t : ℕ) (b : Bool) → p k ≡ b → w ≡ wordOf p (suc k) m → (0 < w → Low p (suc k) m w t) → 0 < bit b + 2 * w
+      → Low p k (suc m) (bit b + 2 * w) (under ((bit b + 2 * w) % 2) t)
+  low-step k m w t true e q n h =
       let odd : (1 + 2 * w) % 2 ≡ 1 = omega arith in
       let half : (1 + 2 * w) / 2 ^ 0 / 2 ≡ w = omega arith in
       let here : k + 0 ≡ k = omega arith in
@@ -69,7 +76,7 @@ module _ (p : ℕ → Bool) where
         passes = rw here e;
         behind = rw (next, less) (half ∙ q);
       })
-  next-step k m w t false e q n h =
+  low-step k m w t false e q n h =
       let even : (0 + 2 * w) % 2 ≡ 0 = omega arith in
       let a = n (omega (arith, h)) in
       let here : k + suc t ≡ suc k + t = omega arith in
@@ -88,11 +95,22 @@ module _ (p : ℕ → Bool) where
       below f zero l = let z : k + 0 ≡ k = omega arith in rw z e
       below f (suc j) l = let z : k + suc j ≡ suc k + j = omega arith in rw z (f j (omega arith))
 
-  -- the zeros at the low end of a word that is not 0, of d bits or fewer
-  pub next-of : (d k m : ℕ) → m ≤ d → 0 < wordOf p k m → NextOf p k m (wordOf p k m) (trailingZeros d (wordOf p k m))
+  low-of : (d k m : ℕ) → m ≤ d → 0 < wordOf p k m → Low p k m (wordOf p k m) (trailingZeros d (wordOf p k m))
   unfolding wordOf trailingZeros
-  next-of d k zero l h = absurd (omega arith)
-  next-of zero k (suc m) l h = absurd (omega arith)
-  next-of (suc d) k (suc m) l h =
+  low-of d k zero l h = absurd (omega arith)
+  low-of zero k (suc m) l h = absurd (omega arith)
+  low-of (suc d) k (suc m) l h =
       let half : (bit (p k) + 2 * wordOf p (suc k) m) / 2 ≡ wordOf p (suc k) m = omega (arith, bit-le (p k)) in
-      rw half (next-step k m (wordOf p (suc k) m) _ (p k) refl refl (next-of d (suc k) m (omega arith)) h)
+      rw half (low-step k m (wordOf p (suc k) m) _ (p k) refl refl (low-of d (suc k) m (omega arith)) h)
+
+  -- the zeros at the low end of a word that is not 0
+  pub next-of : (k n w z : ℕ) → n ≤ 64 → w ≡ wordOf p k (n - k) → (w ≡ 0 → ⊥) → z ≡ trailingZeros 64 w → NextOf p k n w z
+  next-of k n w z few e some q =
+      let low = low-of 64 k (n - k) (omega arith) (rw e at (positive w some)) in
+      let a : Low p k (n - k) w z = rw (q, e) low in
+      let rest : n - k - (z + 1) ≡ n - (k + z + 1) = omega arith in
+      record { within = omega (arith, a .within); before = a .before; passes = a .passes; behind = rw rest at (a .behind) }
+    where
+      positive : (x : ℕ) → (x ≡ 0 → ⊥) → 0 < x
+      positive zero h = absurd (h refl)
+      positive (suc x) h = omega arith
