@@ -1,5 +1,5 @@
--- A list of one entry for each number below n: its length, and entry x of it; and of several, without those that give none. The list as the call leaves it and the answer's 255 places, a list and then
--- zeros, are runs of stores from the first place on (Stores); the places stand here by entries too.
+-- A list of one entry for each number below n: its length, and entry x of it; and one of several for each, without the numbers that give none. The list as the
+-- call leaves it and the answer's 255 places, a list and then zeros, are runs of stores from the first place on (Stores); the places stand here by entries too.
 -- Assumes nothing.
 use mathlib.Core.Path.{_≡_, refl, sym, ap, _∙_}
 use mathlib.Core.List.{List, [], _∷_, _++_, append-nil}
