@@ -87,17 +87,32 @@ fn run<'a>(errors: &mut Errors, apis: &'a [Api]) -> Types<'a> {
     types
 }
 
-/// The time that the call takes, without building the tree before and
-/// dropping the answer after. None for sheets that are not judged.
+/// A sheet that is judged, its tree built once for any number of calls.
+pub struct Prepared(Vec<Api>);
+
+impl Prepared {
+    /// None for sheets that are not judged.
+    pub fn of(bytes: &[u8]) -> Option<Self> {
+        let sheet = reader::read(bytes).ok().filter(|sheet| !too_large(sheet))?;
+        Some(Self(tree::build(&sheet)))
+    }
+
+    /// The time that the call takes, without dropping the answer after; and
+    /// the number of records.
+    pub fn time(&self) -> (Duration, usize) {
+        let start = Instant::now();
+        let mut errors = Errors::new();
+        let types = run(&mut errors, &self.0);
+        let time = start.elapsed();
+        drop(types);
+        (time, errors.errors.len())
+    }
+}
+
+/// The time of one call, without building the tree before. None for sheets
+/// that are not judged.
 pub fn bench(bytes: &[u8]) -> Option<(Duration, usize)> {
-    let sheet = reader::read(bytes).ok().filter(|sheet| !too_large(sheet))?;
-    let apis = tree::build(&sheet);
-    let start = Instant::now();
-    let mut errors = Errors::new();
-    let types = run(&mut errors, &apis);
-    let time = start.elapsed();
-    drop(types);
-    Some((time, errors.errors.len()))
+    Some(Prepared::of(bytes)?.time())
 }
 
 /// The records of a sheet with the error list that they were read off. None
