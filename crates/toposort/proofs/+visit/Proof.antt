@@ -2,7 +2,7 @@
 -- done, and the word has the others that lead to a struct. The measure of a visit is the number of items that are not marked; it falls, since an item is marked
 -- before its fields are visited.
 -- Assumes nothing.
-use Prim.Native.Nat.{ℕ, _+_, _-_, _<_}
+use Prim.Native.Nat.{ℕ, _+_, _-_, _≤_, _<_}
 use mathlib.Core.Path.{_≡_, refl, sym, subst, _∙_}
 use lib.ListN.{length, length-set}
 use native.Mathlib.Omega.{arith}
@@ -10,12 +10,13 @@ use borrow.Author.Needs.{needs}
 use borrow.Author.Tests.{not-true, not-false}
 use borrow.Fn.Kinds.{In}
 use borrow.Fn.PlainCycle.{Measures, is, falls, and}
-use Rattle.rules.specs.View.{fieldCount}
+use Rattle.rules.specs.Numbers.{noItem}
+use Rattle.rules.specs.Rule3.{IsStruct}
 use Rattle.rules.specs.Walk.{fieldsOut}
 use Rattle.laws.specs.Left.{fresh}
 use Rattle.row_tables.proofs.ListLaws.{field-in, struct-list}
 use Rattle.laws.proofs.base.Counts.{fresh-set}
-use Rattle.toposort.specs.Leads.{tableGraph}
+use Rattle.toposort.specs.Leads.{Led, tableGraph}
 use Rattle.toposort.specs.State.{Visits}
 use Rattle.toposort.proofs.Edges.{few-fields, bounded, struct-below, leads-struct, counted-is}
 use Rattle.toposort.proofs.Parts.{did-still, room-less}
@@ -148,74 +149,60 @@ module _ (t : ℕ) where
   gap-requires : visit-lts.Need-gap-requires (calls t) (visit-at t) visit.Post visit-Inv-loop visit-μ-loop
   gap-requires c κs = search needs
 
+  -- ### A turn, when the fields are counted that it skips
+
+  module _ (c : visit-lts.After-gap (calls t) (visit-at t) visit.Post visit-Inv-loop visit-μ-loop) where
+    abbrev start : visit-lts.Start (calls t) (visit-at t) visit.Post visit-Inv-loop visit-μ-loop
+    start = c .before .before .before .before .before .before .before .before .before .before .before
+
+    abbrev own : Led (start .args .s .now) (start .args .leads .now)
+    own = start .pre .1 .0
+
+    -- the field that it visits
+    abbrev field : ℕ
+    field = c .before .before .loop .k + c .gap .result
+
+    below : field < c .before .before .before .before .pair-at .result
+    below = turn-below (bounded own) (c .before .before .loop .inv .1) (c .before .loop-test .taken) (c .gap .result) (c .gap .ensures)
+
+    few : c .before .before .before .before .pair-at .result ≤ 64
+    few = c .before .before .loop .inv .1 .few
+
+    leads : tableGraph (start .args .s .now) (start .args .leads .now) .to (start .args .i) field ≡ noItem → ⊥
+    leads = turn-leads (bounded own) (c .before .before .loop .inv .1) (c .before .loop-test .taken) (c .gap .result) (c .gap .ensures)
+
   add-field : visit-lts.Need-add-field (calls t) (visit-at t) visit.Post visit-Inv-loop visit-μ-loop
-  add-field c =
-      let c1 = c .before in
-      let c2 = c1 .before in
-      let c5 = c2 .before .before .before in
-      let c11 = c5 .before .before .before .before .before .before in
-      let a = c11 .args in
-      let p = c11 .pre .1 in
-      let own = p .0 in
-      let l = c2 .loop in
-      let t = l .inv .1 in
-      let z = c .gap .result in
-      let q = c .gap .ensures in
-      let some = c1 .loop-test .taken in
-      let lt = turn-below (bounded own) t some z q in
-      omega (arith, t .few, lt)
+  add-field c = omega (arith, few c, below c)
 
   add-k : visit-lts.Need-add-k (calls t) (visit-at t) visit.Post visit-Inv-loop visit-μ-loop
-  add-k c =
-      let c1 = c .before in
-      let c2 = c1 .before in
-      let c5 = c2 .before .before .before in
-      let c11 = c5 .before .before .before .before .before .before in
-      let a = c11 .args in
-      let p = c11 .pre .1 in
-      let own = p .0 in
-      let l = c2 .loop in
-      let t = l .inv .1 in
-      let z = c .gap .result in
-      let q = c .gap .ensures in
-      let some = c1 .loop-test .taken in
-      let lt = turn-below (bounded own) t some z q in
-      omega (arith, t .few, lt)
+  add-k c = omega (arith, few c, below c)
 
   behind-requires : visit-lts.Need-behind-requires (calls t) (visit-at t) visit.Post visit-Inv-loop visit-μ-loop
-  behind-requires c κs =
-      let c1 = c .before in
-      let c2 = c1 .before in
-      let c5 = c2 .before .before .before in
-      let c11 = c5 .before .before .before .before .before .before in
-      let a = c11 .args in
-      let p = c11 .pre .1 in
-      let own = p .0 in
-      let l = c2 .loop in
-      let t = l .inv .1 in
-      let z = c .gap .result in
-      let q = c .gap .ensures in
-      let some = c1 .loop-test .taken in
-      let lt = turn-below (bounded own) t some z q in
-      omega (arith, t .few, lt)
+  behind-requires c κs = omega (arith, few c, below c)
 
   leads-to-requires : visit-lts.Need-leads-to-requires (calls t) (visit-at t) visit.Post visit-Inv-loop visit-μ-loop
   leads-to-requires c κs =
-      let c1 = c .before in
-      let c2 = c1 .before in
-      let c3 = c2 .before in
-      let c6 = c3 .before .before .before in
-      let c12 = c6 .before .before .before .before .before .before in
-      let a = c12 .args in
-      let p = c12 .pre .1 in
-      let own = p .0 in
-      let l = c3 .loop in
-      let t = l .inv .1 in
-      let z = c1 .gap .result in
-      let q = c1 .gap .ensures in
-      let some = c2 .loop-test .taken in
-      let lt = turn-below (bounded own) t some z q in
-      (own, field-in (a .s .now) (own .accepted) (a .i) _ _ (p .1 .0) (c6 .rest .ensures) (t .going .all) (l .k + z) lt)
+      let c6 = c .before .before .before .before .before .before in
+      let p = start (c .before) .pre .1 in
+      let n = c .before .before .before .loop .inv .1 .going .all in
+      (p .0, field-in _ (p .0 .accepted) _ _ _ (p .1 .0) (c6 .rest .ensures) n (field (c .before)) (below (c .before)))
+
+  -- ### and when it is known where the field leads
+
+  module _ (c : visit-lts.After-leads-to (calls t) (visit-at t) visit.Post visit-Inv-loop visit-μ-loop) where
+    abbrev gapped : visit-lts.After-gap (calls t) (visit-at t) visit.Post visit-Inv-loop visit-μ-loop
+    gapped = c .before .before
+
+    to : c .leads-to .result ≡ tableGraph (start gapped .args .s .now) (start gapped .args .leads .now) .to (start gapped .args .i) (field gapped)
+    to =
+        let p = start gapped .pre .1 in
+        let n = gapped .before .before .loop .inv .1 .going .all in
+        c .leads-to .ensures _ (p .1 .0) (gapped .before .before .before .before .before .rest .ensures) (omega (arith, n, below gapped))
+
+    to-struct : IsStruct (start gapped .args .s .now) (c .leads-to .result)
+    to-struct =
+        let n = gapped .before .before .loop .inv .1 .going .all in
+        leads-struct (own gapped) _ (field gapped) _ (omega (arith, n, below gapped)) to (λ q. leads gapped (sym to ∙ q))
 
   cast-found : visit-lts.Need-cast-found (calls t) (visit-at t) visit.Post visit-Inv-loop visit-μ-loop
   cast-found c = search needs
@@ -223,72 +210,28 @@ module _ (t : ℕ) where
   element-copy-out-found : visit-lts.Need-element-copy-out-found (calls t) (visit-at t) visit.Post visit-Inv-loop visit-μ-loop
   element-copy-out-found c =
       let c2 = c .before .before in
-      let c3 = c2 .before in
-      let c4 = c3 .before in
-      let c7 = c4 .before .before .before in
-      let c13 = c7 .before .before .before .before .before .before in
-      let a = c13 .args in
-      let p = c13 .pre .1 in
-      let own = p .0 in
-      let l = c4 .loop in
-      let t = l .inv .1 in
-      let z = c2 .gap .result in
-      let q = c2 .gap .ensures in
-      let some = c3 .loop-test .taken in
-      let lt = turn-below (bounded own) t some z q in
-      let below : l .k + z < fieldCount (a .s .now) (a .i) = omega (arith, t .going .all, lt) in
-      let e = c .leads-to .ensures (a .i) (p .1 .0) (c7 .rest .ensures) below in
-      let ne = turn-leads (bounded own) t some z q in
-      let g = turn-going (bounded own) t some z q in
-      let st = leads-struct own (a .i) (l .k + z) _ below e (λ y. ne (sym e ∙ y)) in
-      omega (arith, going-long (bounded own) g, struct-below own _ st)
+      let g = turn-going (bounded (own c2)) (c2 .before .before .loop .inv .1) (c2 .before .loop-test .taken) _ (c2 .gap .ensures) in
+      omega (arith, going-long (bounded (own c2)) g, struct-below (own c2) _ (to-struct c))
 
   visit-requires : visit-lts.Need-visit-requires (calls t) (visit-at t) visit.Post visit-Inv-loop visit-μ-loop
   visit-requires c κs =
       let c4 = c .before .before .before .before in
       let c6 = c4 .before .before in
-      let c7 = c6 .before in
-      let c8 = c7 .before in
-      let c11 = c8 .before .before .before in
-      let c12 = c11 .before in
-      let c17 = c12 .before .before .before .before .before in
-      let a = c17 .args in
-      let p = c17 .pre .1 in
-      let own = p .0 in
-      let l = c8 .loop in
-      let t = l .inv .1 in
-      let z = c6 .gap .result in
-      let q = c6 .gap .ensures in
-      let some = c7 .loop-test .taken in
-      let lt = turn-below (bounded own) t some z q in
-      let below : l .k + z < fieldCount (a .s .now) (a .i) = omega (arith, t .going .all, lt) in
-      let e = c4 .leads-to .ensures (a .i) (p .1 .0) (c11 .rest .ensures) below in
-      let ne = turn-leads (bounded own) t some z q in
-      let lm = marks-long c17 in
-      let g = turn-going (bounded own) t some z q in
-      let st = leads-struct own (a .i) (l .k + z) _ below e (λ y. ne (sym e ∙ y)) in
-      let b = struct-below own (a .i) (p .1 .0) in
+      let c12 = c6 .before .before .before .before .before .before in
+      let a = start c6 .args in
+      let p = start c6 .pre .1 in
+      let lm = marks-long (start c6) in
+      let g = turn-going (bounded (p .0)) (c6 .before .before .loop .inv .1) (c6 .before .loop-test .taken) _ (c6 .gap .ensures) in
+      let lt = below c6 in
+      let b = struct-below (p .0) (a .i) (p .1 .0) in
       let m = fresh-set (a .w .marks) (a .i) 0 (omega arith) (c12 .if1 .left) in
-      let h = going-fresh (bounded own) g in
-      let r = going-room (bounded own) g in
-      (omega arith, (own, (st, room-less r (omega arith))))
+      let h = going-fresh (bounded (p .0)) g in
+      let r = going-room (bounded (p .0)) g in
+      (omega arith, (p .0, (to-struct c4, room-less r (omega arith))))
 
   loop-less : visit-lts.Need-loop-less (calls t) (visit-at t) visit.Post visit-Inv-loop visit-μ-loop
   loop-less c =
-      let c10 = c .before .before .before .before .before .before .before .before .before .before in
-      let c11 = c10 .before in
-      let c12 = c11 .before in
-      let c15 = c12 .before .before .before in
-      let c21 = c15 .before .before .before .before .before .before in
-      let a = c21 .args in
-      let p = c21 .pre .1 in
-      let own = p .0 in
-      let l = c12 .loop in
-      let t = l .inv .1 in
-      let z = c10 .gap .result in
-      let q = c10 .gap .ensures in
-      let some = c11 .loop-test .taken in
-      let lt = turn-below (bounded own) t some z q in
+      let lt = below (c .before .before .before .before .before .before .before .before .before .before) in
       omega arith
 
   loop-again : visit-lts.Need-loop-again (calls t) (visit-at t) visit.Post visit-Inv-loop visit-μ-loop
@@ -297,49 +240,25 @@ module _ (t : ℕ) where
       let c8 = c3 .before .before .before .before .before in
       let c9 = c8 .before in
       let c10 = c9 .before in
-      let c11 = c10 .before in
-      let c12 = c11 .before in
-      let c15 = c12 .before .before .before in
-      let c21 = c15 .before .before .before .before .before .before in
-      let a = c21 .args in
-      let p = c21 .pre .1 in
-      let own = p .0 in
-      let l = c12 .loop in
-      let t = l .inv .1 in
-      let z = c10 .gap .result in
-      let q = c10 .gap .ensures in
-      let some = c11 .loop-test .taken in
-      let lt = turn-below (bounded own) t some z q in
-      let below : l .k + z < fieldCount (a .s .now) (a .i) = omega (arith, t .going .all, lt) in
-      let e = c8 .leads-to .ensures (a .i) (p .1 .0) (c15 .rest .ensures) below in
-      let ne = turn-leads (bounded own) t some z q in
+      let a = start c10 .args in
+      let l = c10 .before .before .loop in
       let G = tableGraph (a .s .now) (a .leads .now) in
+      let e = to c8 in
+      let ne = leads c10 in
       let r = c3 .visit .result in
       let b = c3 .visit .last .1 .1 .1 .0 in
       let o = c3 .visit .last .1 .1 .0 in
       let d = subst (λ (x : ℕ). Visits G (l .out) (l .order) (l .u) x r b o) e (c3 .visit .ensures) in
-      let step = step-ok G (l .out) b (l .order) o (l .u) r (a .i) (l .k + z) ne d (c .if3 .taken) in
-      (c3 .visit .kept .1 .1 .1 .0 ∙ l .inv .0, turn-on (bounded own) t some z q _ _ _ _ (c9 .behind .ensures) step)
+      let step = step-ok G (l .out) b (l .order) o (l .u) r (a .i) (field c10) ne d (c .if3 .taken) in
+      let turned-on = turn-on (bounded (own c10)) (l .inv .1) (c10 .before .loop-test .taken) _ (c10 .gap .ensures) _ _ _ _ (c9 .behind .ensures) step in
+      (c3 .visit .kept .1 .1 .1 .0 ∙ l .inv .0, turned-on)
 
   blame-requires : visit-lts.Need-blame-requires (calls t) (visit-at t) visit.Post visit-Inv-loop visit-μ-loop
   blame-requires c κs = search needs
 
   loop-less-2 : visit-lts.Need-loop-less-2 (calls t) (visit-at t) visit.Post visit-Inv-loop visit-μ-loop
   loop-less-2 c =
-      let c15 = c .before .before .before .before .before .before .before .before .before .before .before .before .before .before .before in
-      let c16 = c15 .before in
-      let c17 = c16 .before in
-      let c20 = c17 .before .before .before in
-      let c26 = c20 .before .before .before .before .before .before in
-      let a = c26 .args in
-      let p = c26 .pre .1 in
-      let own = p .0 in
-      let l = c17 .loop in
-      let t = l .inv .1 in
-      let z = c15 .gap .result in
-      let q = c15 .gap .ensures in
-      let some = c16 .loop-test .taken in
-      let lt = turn-below (bounded own) t some z q in
+      let lt = below (c .before .before .before .before .before .before .before .before .before .before .before .before .before .before .before) in
       omega arith
 
   loop-again-2 : visit-lts.Need-loop-again-2 (calls t) (visit-at t) visit.Post visit-Inv-loop visit-μ-loop
@@ -350,72 +269,33 @@ module _ (t : ℕ) where
       let c13 = c8 .before .before .before .before .before in
       let c14 = c13 .before in
       let c15 = c14 .before in
-      let c16 = c15 .before in
-      let c17 = c16 .before in
-      let c20 = c17 .before .before .before in
-      let c26 = c20 .before .before .before .before .before .before in
-      let a = c26 .args in
-      let p = c26 .pre .1 in
-      let own = p .0 in
-      let l = c17 .loop in
-      let t = l .inv .1 in
-      let z = c15 .gap .result in
-      let q = c15 .gap .ensures in
-      let some = c16 .loop-test .taken in
-      let lt = turn-below (bounded own) t some z q in
-      let below : l .k + z < fieldCount (a .s .now) (a .i) = omega (arith, t .going .all, lt) in
-      let e = c13 .leads-to .ensures (a .i) (p .1 .0) (c20 .rest .ensures) below in
-      let ne = turn-leads (bounded own) t some z q in
+      let a = start c15 .args in
+      let l = c15 .before .before .loop in
       let G = tableGraph (a .s .now) (a .leads .now) in
+      let e = to c13 in
+      let ne = leads c15 in
       let r = c8 .visit .result in
       let b = c8 .visit .last .1 .1 .1 .0 in
       let o = c8 .visit .last .1 .1 .0 in
       let d = subst (λ (x : ℕ). Visits G (l .out) (l .order) (l .u) x r b o) e (c8 .visit .ensures) in
       let report = c2 .blame in
-      let step = step-bad G (l .out) b (l .order) o (l .u) r (a .i) (l .k + z) ne d _ _ (c5 .if3 .left) (report .ensures) in (
-        report .kept .1 .0 ∙ c8 .visit .kept .1 .1 .1 .0 ∙ l .inv .0,
-        turn-on (bounded own) t some z q _ _ _ _ (c14 .behind .ensures) step,
-      )
+      let step = step-bad G (l .out) b (l .order) o (l .u) r (a .i) (field c15) ne d _ _ (c5 .if3 .left) (report .ensures) in
+      let turned-on = turn-on (bounded (own c15)) (l .inv .1) (c15 .before .loop-test .taken) _ (c15 .gap .ensures) _ _ _ _ (c14 .behind .ensures) step in
+      (report .kept .1 .0 ∙ c8 .visit .kept .1 .1 .1 .0 ∙ l .inv .0, turned-on)
 
   visit-marked-requires : visit-lts.Need-visit-marked-requires (calls t) (visit-at t) visit.Post visit-Inv-loop visit-μ-loop
   visit-marked-requires c κs =
       let c4 = c .before .before .before .before in
-      let c5 = c4 .before in
-      let c6 = c5 .before in
-      let c9 = c6 .before .before .before in
-      let c15 = c9 .before .before .before .before .before .before in
-      let a = c15 .args in
-      let p = c15 .pre .1 in
-      let own = p .0 in
-      let l = c6 .loop in
-      let t = l .inv .1 in
-      let z = c4 .gap .result in
-      let q = c4 .gap .ensures in
-      let some = c5 .loop-test .taken in
-      let lt = turn-below (bounded own) t some z q in
-      let g = turn-going (bounded own) t some z q in
-      let r = going-room (bounded own) g in
-      omega (arith, r .calls, lt)
+      let g = turn-going (bounded (own c4)) (c4 .before .before .loop .inv .1) (c4 .before .loop-test .taken) _ (c4 .gap .ensures) in
+      let r = going-room (bounded (own c4)) g in
+      omega (arith, r .calls, below c4)
 
   blame-requires-2 : visit-lts.Need-blame-requires-2 (calls t) (visit-at t) visit.Post visit-Inv-loop visit-μ-loop
   blame-requires-2 c κs = search needs
 
   loop-less-3 : visit-lts.Need-loop-less-3 (calls t) (visit-at t) visit.Post visit-Inv-loop visit-μ-loop
   loop-less-3 c =
-      let c12 = c .before .before .before .before .before .before .before .before .before .before .before .before in
-      let c13 = c12 .before in
-      let c14 = c13 .before in
-      let c17 = c14 .before .before .before in
-      let c23 = c17 .before .before .before .before .before .before in
-      let a = c23 .args in
-      let p = c23 .pre .1 in
-      let own = p .0 in
-      let l = c14 .loop in
-      let t = l .inv .1 in
-      let z = c12 .gap .result in
-      let q = c12 .gap .ensures in
-      let some = c13 .loop-test .taken in
-      let lt = turn-below (bounded own) t some z q in
+      let lt = below (c .before .before .before .before .before .before .before .before .before .before .before .before) in
       omega arith
 
   loop-again-3 : visit-lts.Need-loop-again-3 (calls t) (visit-at t) visit.Post visit-Inv-loop visit-μ-loop
@@ -427,45 +307,21 @@ module _ (t : ℕ) where
       let c10 = c8 .before .before in
       let c11 = c10 .before in
       let c12 = c11 .before in
-      let c13 = c12 .before in
-      let c14 = c13 .before in
-      let c17 = c14 .before .before .before in
-      let c23 = c17 .before .before .before .before .before .before in
-      let a = c23 .args in
-      let p = c23 .pre .1 in
-      let own = p .0 in
-      let l = c14 .loop in
-      let t = l .inv .1 in
-      let z = c12 .gap .result in
-      let q = c12 .gap .ensures in
-      let some = c13 .loop-test .taken in
-      let lt = turn-below (bounded own) t some z q in
-      let below : l .k + z < fieldCount (a .s .now) (a .i) = omega (arith, t .going .all, lt) in
-      let e = c10 .leads-to .ensures (a .i) (p .1 .0) (c17 .rest .ensures) below in
-      let ne = turn-leads (bounded own) t some z q in
+      let a = start c12 .args in
+      let l = c12 .before .before .loop in
       let G = tableGraph (a .s .now) (a .leads .now) in
+      let e = to c10 in
+      let ne = leads c12 in
       let m = c7 .visit-marked .ensures in
       let report = c2 .blame2 in
       let failed = not-true _ (c5 .if4 .taken) in
-      let step = met-bad G (l .out) (l .order) (l .u) (a .i) (l .k + z) ne _ e (c8 .if2 .left) _ _ (m .0) (m .1) _ _ failed (report .ensures) in
-      (report .kept .1 .0 ∙ l .inv .0, turn-on (bounded own) t some z q _ _ _ _ (c11 .behind .ensures) step)
+      let step = met-bad G (l .out) (l .order) (l .u) (a .i) (field c12) ne _ e (c8 .if2 .left) _ _ (m .0) (m .1) _ _ failed (report .ensures) in
+      let turned-on = turn-on (bounded (own c12)) (l .inv .1) (c12 .before .loop-test .taken) _ (c12 .gap .ensures) _ _ _ _ (c11 .behind .ensures) step in
+      (report .kept .1 .0 ∙ l .inv .0, turned-on)
 
   loop-less-4 : visit-lts.Need-loop-less-4 (calls t) (visit-at t) visit.Post visit-Inv-loop visit-μ-loop
   loop-less-4 c =
-      let c7 = c .before .before .before .before .before .before .before in
-      let c8 = c7 .before in
-      let c9 = c8 .before in
-      let c12 = c9 .before .before .before in
-      let c18 = c12 .before .before .before .before .before .before in
-      let a = c18 .args in
-      let p = c18 .pre .1 in
-      let own = p .0 in
-      let l = c9 .loop in
-      let t = l .inv .1 in
-      let z = c7 .gap .result in
-      let q = c7 .gap .ensures in
-      let some = c8 .loop-test .taken in
-      let lt = turn-below (bounded own) t some z q in
+      let lt = below (c .before .before .before .before .before .before .before) in
       omega arith
 
   loop-again-4 : visit-lts.Need-loop-again-4 (calls t) (visit-at t) visit.Post visit-Inv-loop visit-μ-loop
@@ -475,26 +331,17 @@ module _ (t : ℕ) where
       let c5 = c3 .before .before in
       let c6 = c5 .before in
       let c7 = c6 .before in
-      let c8 = c7 .before in
-      let c9 = c8 .before in
-      let c12 = c9 .before .before .before in
-      let c18 = c12 .before .before .before .before .before .before in
-      let a = c18 .args in
-      let p = c18 .pre .1 in
-      let own = p .0 in
-      let l = c9 .loop in
-      let t = l .inv .1 in
-      let z = c7 .gap .result in
-      let q = c7 .gap .ensures in
-      let some = c8 .loop-test .taken in
-      let lt = turn-below (bounded own) t some z q in
-      let below : l .k + z < fieldCount (a .s .now) (a .i) = omega (arith, t .going .all, lt) in
-      let e = c5 .leads-to .ensures (a .i) (p .1 .0) (c12 .rest .ensures) below in
-      let ne = turn-leads (bounded own) t some z q in
+      let a = start c7 .args in
+      let l = c7 .before .before .loop in
       let G = tableGraph (a .s .now) (a .leads .now) in
+      let e = to c5 in
+      let ne = leads c7 in
       let m = c2 .visit-marked .ensures in
-      let step = met-ok G (l .out) (l .order) (l .u) (a .i) (l .k + z) ne _ e (c3 .if2 .left) _ _ (m .0) (m .1) (not-false _ (c .if4 .left)) in
-      (l .inv .0, turn-on (bounded own) t some z q _ _ _ _ (c6 .behind .ensures) step)
+      let step = met-ok G (l .out) (l .order) (l .u) (a .i) (field c7) ne _ e (c3 .if2 .left) _ _ (m .0) (m .1) (not-false _ (c .if4 .left)) in
+      let turned-on = turn-on (bounded (own c7)) (l .inv .1) (c7 .before .loop-test .taken) _ (c7 .gap .ensures) _ _ _ _ (c6 .behind .ensures) step in
+      (l .inv .0, turned-on)
+
+  -- ### The end
 
   element-write-u-2 : visit-lts.Need-element-write-u-2 (calls t) (visit-at t) visit.Post visit-Inv-loop visit-μ-loop
   element-write-u-2 c =
