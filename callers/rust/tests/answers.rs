@@ -1,6 +1,6 @@
 //! The stored answers of the original Rust (testdata/answers.bin, see its README): every part of every one.
 
-use tirvouez::{ANSWER, Answer, Letter, RECORD, SCRATCH, Set, Unreadable, VERSION, all_records, check, room};
+use tirvouez::{ANSWER, Answer, Checker, Letter, RECORD, SCRATCH, Set, Unreadable, VERSION, all_records, check, room};
 
 /// The most records that are stored of an answer.
 const STORED: usize = 4096;
@@ -50,6 +50,7 @@ fn stored_answers() {
     let stored = std::fs::read(concat!(env!("CARGO_MANIFEST_DIR"), "/../../testdata/answers.bin")).unwrap();
     let mut file = File(&stored);
     let sheets = file.number(4);
+    let (mut checker, mut longest) = (Checker::new(), 0);
     for number in 0..sheets {
         let length = file.number(4);
         let sheet = file.bytes(length);
@@ -62,7 +63,12 @@ fn stored_answers() {
         let cleared = if expected[0] == 0 { 0 } else { 0x5A };
         assert!(scratch[..SCRATCH].iter().all(|&byte| byte == cleared), "sheet {number}: scratch");
         assert_eq!(scratch[SCRATCH], 0x5A, "sheet {number}: scratch");
+        // the same from buffers that serve all, and every record
+        let answer = checker.check(sheet).unwrap();
+        assert!(answer.records().len() == answer.total() && answer.records().take(STORED).eq(Answer::new(&expected).unwrap().records()));
+        longest = longest.max(answer.total());
     }
+    assert!(longest > STORED, "no report was longer than the buffer at first");
     assert!(file.0.is_empty());
     println!("{sheets} stored answers");
 }

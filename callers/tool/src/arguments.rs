@@ -1,0 +1,147 @@
+//! The command line.
+
+use std::ffi::OsString;
+use std::path::PathBuf;
+
+pub const HELP: &str = "\
+tirvouez: what the bridge check says of a driver's sheet
+
+  tirvouez check FILE...       each sheet's verdict, and each diagnostic in words
+  tirvouez show FILE...        the sheet as text, its rows and items written like a bridge
+  tirvouez order FILE...       the structs in order, with their tiers, and what each holds
+  tirvouez make FILE.rows...   makes FILE.sheet of rows and items as text
+
+A FILE is a sheet; - is standard input; a folder stands for its files that end in .sheet, by name.
+
+  --names FILE    names in place of numbers, by a file of lines like `24 Point`
+  --json          check, show, order: one object for each sheet, a line each
+  --brief         check: the verdicts alone
+  --rows          show: the lines that make reads
+  --dot           order: a graph for Graphviz, cyclic fields in red
+  --check         make: writes nothing, and fails where a sheet differs
+  --output FILE   make, of one file: writes FILE; - is standard output
+  --help, --version
+
+Exit status, the largest that any file asks for:
+  0   all is clean (of show, order and make: all is done)
+  1   check: some sheet has a diagnostic; make --check: some sheet differs
+  2   some sheet is refused
+  3   a file cannot be read
+  4   the command is not understood, or what it makes cannot be written
+";
+
+#[derive(Clone, Copy, Debug, Default, PartialEq, Eq)]
+pub enum Word {
+    #[default]
+    Check,
+    Show,
+    Order,
+    Make,
+}
+
+#[derive(Clone, Debug, Default, PartialEq, Eq)]
+pub struct Options {
+    pub word: Word,
+    pub files: Vec<PathBuf>,
+    pub names: Option<PathBuf>,
+    pub json: bool,
+    pub brief: bool,
+    pub rows: bool,
+    pub dot: bool,
+    pub check: bool,
+    pub output: Option<PathBuf>,
+}
+
+#[derive(Clone, Debug, PartialEq, Eq)]
+pub enum Command {
+    Run(Options),
+    Help,
+    Version,
+}
+
+/// An option with the words that have it.
+const OPTIONS: [(&str, &[Word]); 7] = [
+    ("--names", &[Word::Check, Word::Show, Word::Order]),
+    ("--json", &[Word::Check, Word::Show, Word::Order]),
+    ("--brief", &[Word::Check]),
+    ("--rows", &[Word::Show]),
+    ("--dot", &[Word::Order]),
+    ("--check", &[Word::Make]),
+    ("--output", &[Word::Make]),
+];
+
+pub fn parse(arguments: impl IntoIterator<Item = OsString>) -> Result<Command, String> {
+    let mut arguments = arguments.into_iter();
+    let first = arguments.next().ok_or("a word is missing: check, show, order or make")?;
+    let word = match first.to_str() {
+        Some("check") => Word::Check,
+        Some("show") => Word::Show,
+        Some("order") => Word::Order,
+        Some("make") => Word::Make,
+        Some("help" | "--help" | "-h") => return Ok(Command::Help),
+        Some("--version" | "-V") => return Ok(Command::Version),
+        _ => return Err(format!("no word `{}`: the words are check, show, order and make", first.to_string_lossy())),
+    };
+    options(word, arguments)
+}
+
+fn options(word: Word, mut arguments: impl Iterator<Item = OsString>) -> Result<Command, String> {
+    let mut made = Options { word, ..Options::default() };
+    let mut ended = false;
+    while let Some(argument) = arguments.next() {
+        let text = argument.to_string_lossy().into_owned();
+        if ended || !text.starts_with('-') || text == "-" {
+            made.files.push(argument.into());
+            continue;
+        }
+        if matches!(&text[..], "--help" | "-h") {
+            return Ok(Command::Help);
+        }
+        if text == "--" {
+            ended = true;
+            continue;
+        }
+        let (option, value) = text.split_once('=').map_or((&text[..], None), |(option, value)| (option, Some(value.into())));
+        if !OPTIONS.iter().any(|(name, words)| *name == option && words.contains(&word)) {
+            return Err(format!("no option {option} of this word"));
+        }
+        set(&mut made, option, value, &mut arguments)?;
+    }
+    sensible(&made)?;
+    Ok(Command::Run(made))
+}
+
+fn set(made: &mut Options, option: &str, value: Option<OsString>, rest: &mut impl Iterator<Item = OsString>) -> Result<(), String> {
+    let place = match option {
+        "--names" => &mut made.names,
+        "--output" => &mut made.output,
+        _ if value.is_some() => return Err(format!("the option {option} has no value")),
+        _ => {
+            *match option {
+                "--json" => &mut made.json,
+                "--brief" => &mut made.brief,
+                "--rows" => &mut made.rows,
+                "--dot" => &mut made.dot,
+                _ => &mut made.check,
+            } = true;
+            return Ok(());
+        }
+    };
+    let value = value.or_else(|| rest.next()).ok_or_else(|| format!("the option {option} needs a file"))?;
+    if place.replace(value.into()).is_some() {
+        return Err(format!("the option {option} is there twice"));
+    }
+    Ok(())
+}
+
+/// What does not go together.
+fn sensible(made: &Options) -> Result<(), String> {
+    let standard = made.files.iter().chain(&made.names).filter(|file| file.as_os_str() == "-").count();
+    let faults = [
+        (made.files.is_empty(), "a file is missing; - is standard input"),
+        (standard > 1 || made.names.as_ref().is_some_and(|names| names.as_os_str() == "-"), "standard input is one sheet"),
+        (made.json && (made.brief || made.rows || made.dot), "--json is a form of its own, and goes with no other"),
+        (made.output.is_some() && (made.files.len() != 1 || made.check), "--output is for one file, and not with --check"),
+    ];
+    faults.into_iter().find(|(wrong, _)| *wrong).map_or(Ok(()), |(_, fault)| Err(fault.to_owned()))
+}

@@ -1,0 +1,56 @@
+//! `tirvouez check`: what is wrong with a sheet, in words or as data.
+
+use crate::data;
+use crate::reader;
+use crate::refusal;
+use crate::run::{Context, Said, Status};
+use crate::style::Style;
+use crate::view::View;
+use crate::words::Words;
+use tirvouez::{Answer, Record};
+
+pub fn check(context: &Context, file: &str, sheet: &[u8], answer: Answer) -> Said {
+    let status = match answer.verdict() {
+        Ok(()) if answer.total() == 0 => Status::Clean,
+        Ok(()) => Status::Diagnostics,
+        Err(_) => Status::Refused,
+    };
+    // room for most of what is said
+    let mut out = String::with_capacity(if context.brief { 100 } else { 100 + 100 * answer.total() });
+    if context.json {
+        data::push(&mut out, file, sheet, answer, context.names);
+    } else {
+        push_verdict(&mut out, file, answer, &context.style);
+        if !context.brief {
+            push_words(&mut out, context, sheet, answer);
+        }
+    }
+    Said { out, err: String::new(), status }
+}
+
+/// `FILE: accepted`, `FILE: accepted, 2 diagnostics`, `FILE: refused 7 at 12`.
+pub fn push_verdict(out: &mut String, file: &str, answer: Answer, style: &Style) {
+    let Style { bold, error, good, end, .. } = style;
+    let verdict = match (answer.verdict(), answer.total()) {
+        (Ok(()), 0) => format!("{good}accepted{end}"),
+        (Ok(()), 1) => format!("accepted, {error}1 diagnostic{end}"),
+        (Ok(()), total) => format!("accepted, {error}{total} diagnostics{end}"),
+        (Err((number, position)), _) => format!("{error}refused {number} at {position}{end}"),
+    };
+    *out += &format!("{bold}{file}{end}: {verdict}\n");
+}
+
+/// What makes the verdict, if it is not a clean one.
+fn push_words(out: &mut String, context: &Context, sheet: &[u8], answer: Answer) {
+    if answer.verdict().is_ok() && answer.total() == 0 {
+        return;
+    }
+    let (read, fault) = reader::read(sheet);
+    if let Err(verdict) = answer.verdict() {
+        refusal::push(out, verdict, fault.as_ref(), sheet, &context.style);
+    }
+    let view = View::new(read, context.names);
+    let records: Vec<Record> = answer.records().collect();
+    Words::new(&view, context.style).push(out, &records);
+    out.push('\n');
+}

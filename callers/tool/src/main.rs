@@ -1,0 +1,21 @@
+//! `tirvouez`, the makers' tool: see `tirvouez --help`, or docs/TOOL.md.
+
+use std::process::ExitCode;
+use tool::arguments::{self, Command, HELP, Word};
+use tool::output::{self, tell};
+use tool::run::{self, Status};
+use tool::{files, make};
+
+fn main() -> ExitCode {
+    let status = match arguments::parse(std::env::args_os().skip(1)) {
+        Ok(Command::Run(options)) if options.word == Word::Make => make::run(&options),
+        Ok(Command::Run(options)) => run::run(&options),
+        Ok(Command::Help) => output::print(HELP),
+        Ok(Command::Version) => output::print(&format!("tirvouez, of cxx-build 1.0.205; layout version {}\n", tirvouez::VERSION)),
+        Err(fault) => {
+            tell(&format!("tirvouez: {}\nTry `tirvouez --help`.\n", files::printable(&fault)));
+            Status::Trouble
+        }
+    };
+    ExitCode::from(status as u8)
+}

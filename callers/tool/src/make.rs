@@ -1,0 +1,94 @@
+//! `tirvouez make`: a sheet of rows and items as text. Each line is `row` or `item` and the pairs of its body, in decimal; what follows a # is
+//! not read. The contents (how many rows and items, and the place of each body) are worked out here. What the pairs mean is not asked: a
+//! sheet that will be refused can be made too.
+
+use crate::arguments::Options;
+use crate::files;
+use crate::output::{self, tell};
+use crate::run::Status;
+use crate::sheet::MOST_BYTES;
+use std::path::{Path, PathBuf};
+
+pub fn run(options: &Options) -> Status {
+    options.files.iter().map(|file| one(options, file)).max().unwrap_or(Status::Clean)
+}
+
+/// Makes, or compares, the sheet of one file.
+fn one(options: &Options, file: &Path) -> Status {
+    let fault = |path: &Path, what: &str, status: Status| {
+        tell(&format!("tirvouez: {}\n", files::printable(&format!("{}: {what}", path.display()))));
+        status
+    };
+    let Some(target) = options.output.clone().or_else(|| target(file)) else {
+        return fault(file, "the name does not end in .rows; --output says where the sheet goes", Status::Trouble);
+    };
+    let made = match files::text(file) {
+        Ok(text) => sheet(&text),
+        Err(why) => return fault(file, &format!("cannot be read: {why}"), Status::Unread),
+    };
+    let made = match made {
+        Ok(made) => made,
+        Err(what) => return fault(file, &what, Status::Unread),
+    };
+    if options.check {
+        return match std::fs::read(&target) {
+            Ok(bytes) if bytes == made => Status::Clean,
+            Ok(_) => fault(&target, &format!("it differs from what {} makes", file.display()), Status::Diagnostics),
+            Err(error) => fault(&target, &format!("cannot be read: {error}"), Status::Unread),
+        };
+    }
+    if target.as_os_str() == "-" {
+        return output::bytes(&made);
+    }
+    match std::fs::write(&target, &made) {
+        Ok(()) => Status::Clean,
+        Err(error) => fault(&target, &format!("cannot be written: {error}"), Status::Trouble),
+    }
+}
+
+/// Where a file's sheet goes: beside it; of standard input to standard output.
+fn target(file: &Path) -> Option<PathBuf> {
+    if file.as_os_str() == "-" {
+        return Some(file.to_owned());
+    }
+    (file.extension()? == "rows").then(|| file.with_extension("sheet"))
+}
+
+/// The sheet of a text.
+pub fn sheet(text: &str) -> Result<Vec<u8>, String> {
+    let (mut rows, mut items) = (Vec::new(), Vec::new());
+    for (number, line) in text.lines().enumerate() {
+        let mut words = line.split('#').next().unwrap_or_default().split_whitespace();
+        let fault = |what: String| format!("line {}: {what}", number + 1);
+        let bodies = match words.next() {
+            None => continue,
+            Some("row") => &mut rows,
+            Some("item") => &mut items,
+            Some(word) => return Err(fault(format!("it begins with `{}`, not with `row` or `item`", word.escape_debug()))),
+        };
+        bodies.push(words.map(pair).collect::<Result<Vec<u16>, String>>().map_err(fault)?);
+    }
+    assemble(&rows, &items)
+}
+
+fn pair(word: &str) -> Result<u16, String> {
+    word.parse().map_err(|_| format!("`{}` is no pair, which is 0 to 65535", word.escape_debug()))
+}
+
+fn assemble(rows: &[Vec<u16>], items: &[Vec<u16>]) -> Result<Vec<u8>, String> {
+    let bodies = || rows.iter().chain(items);
+    let contents = 4 + 2 * bodies().count();
+    let length = contents + bodies().map(|body| 2 * body.len()).sum::<usize>();
+    if length > MOST_BYTES {
+        return Err(format!("it makes {length} bytes, and a sheet has at most {MOST_BYTES}"));
+    }
+    let mut pairs = vec![rows.len(), items.len()];
+    let mut at = contents;
+    for body in bodies() {
+        pairs.push(at);
+        at += 2 * body.len();
+    }
+    // below 65,536: no number here is larger than the sheet
+    let contents = pairs.into_iter().map(|pair| pair as u16);
+    Ok(contents.chain(bodies().flatten().copied()).flat_map(u16::to_le_bytes).collect())
+}

@@ -1,0 +1,85 @@
+//! A diagnostic's place in words: `field 2 of item 1`, ``row 3, `Vec<n25>`, in argument 0 of item 4``.
+
+use crate::declaration::Part;
+use crate::number;
+use crate::sheet::{Pairs, item};
+use crate::uses::Use;
+use crate::view::View;
+use tirvouez::{Letter, Record};
+
+/// The place of records that stand together.
+pub fn push(out: &mut String, records: &[Record], view: &View) {
+    let Some(Record { letter, first, .. }) = records.first().copied() else { return };
+    match Letter::of(letter) {
+        Some(Letter::Row) => push_row(out, first, view),
+        Some(Letter::RowArgument) => {
+            push_numbers(out, "argument", records);
+            out.push_str(" of ");
+            push_row(out, first, view);
+        }
+        Some(letter) => {
+            match letter {
+                Letter::Field => push_numbers(out, "field", records),
+                Letter::Argument => push_numbers(out, "argument", records),
+                Letter::Derive => push_numbers(out, "derive", records),
+                Letter::Lifetime => push_numbers(out, "lifetime", records),
+                Letter::Return => out.push_str("the return"),
+                _ => {}
+            }
+            out.push_str(if letter == Letter::Item { "item " } else { " of item " });
+            number::push(out, usize::from(first));
+        }
+        None => out.push_str(&format!("place {letter} {first}")),
+    }
+}
+
+fn push_row(out: &mut String, row: u16, view: &View) {
+    out.push_str("row ");
+    number::push(out, usize::from(row));
+    out.push_str(", `");
+    view.types.push(out, row);
+    out.push('`');
+    if let Some(used) = view.first_use(row) {
+        out.push_str(", in ");
+        push_use(out, used, view);
+    }
+}
+
+/// `argument 0 of item 4`
+fn push_use(out: &mut String, used: Use, view: &View) {
+    let kind = view.sheet.item(used.item).map(|body| body.kind);
+    match used.part {
+        Part::Listed(number) => {
+            out.push_str(if kind == Some(item::STRUCT) { "field " } else { "argument " });
+            number::push(out, usize::from(number));
+            out.push_str(" of ");
+        }
+        Part::Return => out.push_str("the return of "),
+        Part::Row if kind == Some(item::ENUM) => out.push_str("the repr of "),
+        _ => {}
+    }
+    out.push_str("item ");
+    number::push(out, usize::from(used.item));
+}
+
+/// `field 2`; `fields 0, 2 to 5`.
+fn push_numbers(out: &mut String, word: &str, records: &[Record]) {
+    out.push_str(word);
+    out.push_str(if records.len() > 1 { "s " } else { " " });
+    for (number, run) in records.chunk_by(|a, b| a.second + 1 == b.second).enumerate() {
+        out.push_str(if number > 0 { ", " } else { "" });
+        number::push(out, usize::from(run[0].second));
+        if let [_, .., last] = run {
+            out.push_str(if run.len() > 2 { " to " } else { ", " });
+            number::push(out, usize::from(last.second));
+        }
+    }
+}
+
+/// All pairs, in decimal, with blanks between.
+pub fn push_pairs(out: &mut String, pairs: Pairs) {
+    for (number, pair) in pairs.iter().enumerate() {
+        out.push_str(if number > 0 { " " } else { "" });
+        number::push(out, usize::from(pair));
+    }
+}

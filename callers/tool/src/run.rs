@@ -1,0 +1,102 @@
+//! Runs a word on every sheet, with all cores, and prints what is said of each in the files' order.
+
+use crate::arguments::{Options, Word};
+use crate::files::{self, Input};
+use crate::names::Names;
+use crate::output::{Output, tell};
+use crate::parallel;
+use crate::style::Style;
+use crate::{check, order, show};
+use std::io::IsTerminal;
+use std::ops::ControlFlow;
+use tirvouez::Checker;
+
+/// How a sheet is spoken of.
+pub struct Context<'a> {
+    pub names: &'a Names,
+    pub style: Style,
+    pub json: bool,
+    pub brief: bool,
+    pub rows: bool,
+    pub dot: bool,
+}
+
+/// What is said of a sheet.
+pub struct Said {
+    pub out: String,
+    pub err: String,
+    pub status: Status,
+}
+
+/// The exit status that one file asks for; of several the largest counts.
+#[derive(Clone, Copy, Debug, PartialEq, Eq, PartialOrd, Ord)]
+#[repr(u8)]
+pub enum Status {
+    Clean = 0,
+    Diagnostics = 1,
+    Refused = 2,
+    Unread = 3,
+    /// The command itself went wrong.
+    Trouble = 4,
+}
+
+/// A thread's buffers.
+struct Worker {
+    checker: Checker,
+    bytes: Vec<u8>,
+}
+
+pub fn run(options: &Options) -> Status {
+    let names = match names(options) {
+        Ok(names) => names,
+        Err(fault) => {
+            tell(&format!("tirvouez: {}\n", files::printable(&fault)));
+            return Status::Unread;
+        }
+    };
+    let context = Context {
+        names: &names,
+        style: Style::of(std::io::stdout().is_terminal() && !options.json && !options.rows && !options.dot),
+        json: options.json,
+        brief: options.brief,
+        rows: options.rows,
+        dot: options.dot,
+    };
+    let inputs = files::listed(&options.files);
+    let threads = std::thread::available_parallelism().map_or(1, |threads| threads.get());
+    let mut output = Output::new(inputs.len());
+    let worker = || Worker { checker: Checker::new(), bytes: Vec::new() };
+    let say = |worker: &mut Worker, input: &Input| said(options.word, &context, input, worker);
+    parallel::in_order(&inputs, threads, worker, say, |said| match output.sheet(&said) {
+        true => ControlFlow::Continue(()),
+        false => ControlFlow::Break(()),
+    });
+    output.end(options.word == Word::Check && !options.json && inputs.len() > 1)
+}
+
+fn names(options: &Options) -> Result<Names, String> {
+    let Some(path) = &options.names else { return Ok(Names::default()) };
+    let text = files::text(path).map_err(|why| format!("{}: cannot be read: {why}", path.display()))?;
+    Names::read(&text).map_err(|fault| format!("{}: {fault}", path.display()))
+}
+
+fn said(word: Word, context: &Context, input: &Input, worker: &mut Worker) -> Said {
+    let trouble = |why: String| {
+        let err = format!("tirvouez: {}: cannot be read: {}\n", files::printable(&input.name()), files::printable(&why));
+        Said { out: String::new(), err, status: Status::Unread }
+    };
+    if let Err(why) = input.read(&mut worker.bytes) {
+        return trouble(why);
+    }
+    let answer = match worker.checker.check(&worker.bytes) {
+        Ok(answer) => answer,
+        Err(unreadable) => return trouble(unreadable.to_string()),
+    };
+    // data has the name as it is, JSON's escapes do the rest
+    let file = if context.json { input.name() } else { files::printable(&input.name()) };
+    match word {
+        Word::Show => show::show(context, &file, &worker.bytes, answer),
+        Word::Order => order::order(context, &file, &worker.bytes, answer),
+        _ => check::check(context, &file, &worker.bytes, answer),
+    }
+}

@@ -1,0 +1,22 @@
+//! Colours, where they are wanted.
+
+/// Codes of a terminal; all empty where there are to be none.
+#[derive(Clone, Copy, Default)]
+pub struct Style {
+    pub bold: &'static str,
+    pub error: &'static str,
+    pub good: &'static str,
+    pub frame: &'static str,
+    pub end: &'static str,
+}
+
+impl Style {
+    /// For a terminal, unless NO_COLOR is set (no-color.org) or the terminal is dumb.
+    pub fn of(terminal: bool) -> Self {
+        let set = |name: &str| std::env::var_os(name).filter(|value| !value.is_empty());
+        if !terminal || set("NO_COLOR").is_some() || set("TERM").is_some_and(|term| term == "dumb") {
+            return Self::default();
+        }
+        Self { bold: "\x1b[1m", error: "\x1b[1;31m", good: "\x1b[32m", frame: "\x1b[1;34m", end: "\x1b[0m" }
+    }
+}
