@@ -1,26 +1,10 @@
 //! The makers' tool `tirvouez`: what the bridge check says of sheets, in words and as data.
 
-pub mod arguments;
-pub mod check;
-pub mod data;
-pub mod declaration;
-pub mod files;
-pub mod json;
-pub mod make;
-pub mod names;
-pub mod number;
-pub mod order;
-pub mod output;
-pub mod parallel;
-pub mod place;
-pub mod reader;
-pub mod refusal;
-pub mod run;
+/// The command line, files, cores and outputs.
+pub mod command;
+/// What stands in a sheet, and the reader.
 pub mod sheet;
-pub mod show;
-pub mod style;
-pub mod texts;
-pub mod types;
-pub mod uses;
-pub mod view;
+/// Sheets and answers as text.
+pub mod text;
+/// A file for each word of the command line.
 pub mod words;

@@ -1,10 +1,11 @@
 //! `tirvouez`, the makers' tool: see `tirvouez --help`, or docs/TOOL.md.
 
 use std::process::ExitCode;
-use tool::arguments::{self, Command, HELP, Word};
-use tool::output::{self, tell};
-use tool::run::{self, Status};
-use tool::{files, make};
+use tool::command::arguments::{self, Command, HELP, Word};
+use tool::command::files;
+use tool::command::output::{self, tell};
+use tool::command::run::{self, Status};
+use tool::words::make;
 
 fn main() -> ExitCode {
     let status = match arguments::parse(std::env::args_os().skip(1)) {

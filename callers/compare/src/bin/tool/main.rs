@@ -14,10 +14,12 @@ use std::fs;
 use std::path::{Path, PathBuf};
 use std::process::{Command, Output};
 use tirvouez::Checker;
-use tool::names::Names;
-use tool::run::Context;
-use tool::style::Style;
-use tool::{check, make, order, reader, show};
+use tool::command::arguments::Form;
+use tool::command::run::Context;
+use tool::command::style::Style;
+use tool::sheet::reader;
+use tool::text::names::Names;
+use tool::words::{check, make, order, show};
 
 /// Sheets of one run of the program.
 const FOLDER: usize = 500;
@@ -68,16 +70,15 @@ fn in_process(sheet: &[u8], checker: &mut Checker, names: &Names) -> Result<(), 
     if answer.verdict().err() != fault {
         return Err(format!("the library says {:?}, the tool's reader {fault:?}", answer.verdict()));
     }
-    let plain = Context { names, style: Style::default(), json: false, brief: false, rows: false, dot: false };
-    for context in [Context { json: true, ..plain }, Context { dot: true, ..plain }, plain] {
-        for said in [check::check, show::show, order::order].map(|word| word(&context, "", sheet, answer)) {
+    let context = |form: Form| Context { names, style: Style::default(), form };
+    for form in [Form::Words, Form::Brief, Form::Json, Form::Rows, Form::Dot] {
+        for said in [check::check, show::show, order::order].map(|word| word(&context(form), "", sheet, answer)) {
             if said.out.len() > 100_000 + 2_000 * (sheet.len() + answer.total()) {
                 return Err(format!("{} bytes are said of it", said.out.len()));
             }
         }
     }
-    let context = Context { names, style: Style::default(), json: false, brief: false, rows: true, dot: false };
-    let rows = show::show(&context, "", sheet, answer).out;
+    let rows = show::show(&context(Form::Rows), "", sheet, answer).out;
     match make::sheet(&rows) {
         Ok(made) if made == sheet || fault.is_some() => Ok(()),
         Ok(_) => Err("show --rows and make give other bytes".to_owned()),

@@ -1,12 +1,12 @@
 //! An answer as JSON.
 
-use crate::json;
-use crate::names::Names;
-use crate::number;
-use crate::reader;
 use crate::sheet::LAST_NAME;
-use crate::texts;
-use crate::view::View;
+use crate::sheet::reader;
+use crate::text::json;
+use crate::text::messages;
+use crate::text::names::Names;
+use crate::text::number;
+use crate::text::view::View;
 use std::collections::HashMap;
 use tirvouez::{Answer, Letter, Record, Set};
 
@@ -64,11 +64,13 @@ fn push_records(out: &mut String, sheet: &[u8], answer: Answer, names: &Names) {
         return out.push_str("[]");
     }
     let view = View::new(reader::read(sheet).0, names);
+    // room for most of what is said
+    out.reserve(100 * answer.total());
     // what stands before and behind the numbers, for texts that message and detail decide
     let mut decided = HashMap::new();
     json::list(out, answer.records(), |out, record| {
         let made;
-        let (before, behind) = if texts::decided(&record) {
+        let (before, behind) = if messages::by_detail(&record).is_some() {
             decided.entry((record.message, record.letter, record.detail)).or_insert_with(|| around(&record, &view))
         } else {
             made = around(&record, &view);
@@ -88,7 +90,7 @@ fn push_records(out: &mut String, sheet: &[u8], answer: Answer, names: &Names) {
 fn around(record: &Record, view: &View) -> (String, String) {
     let before = format!("{{\"message\":{},\"place\":\"{}\",\"numbers\":[", record.message, char::from(record.letter));
     let mut behind = format!("],\"detail\":{},\"text\":", record.detail);
-    json::string(&mut behind, &texts::of(record, view));
+    json::string(&mut behind, &messages::of(record, view));
     behind.push('}');
     (before, behind)
 }

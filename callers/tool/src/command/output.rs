@@ -1,6 +1,7 @@
 //! The two outputs, a line of progress, and the sum of what was found. A closed pipe ends the run without a word.
 
-use crate::run::{Said, Status};
+use crate::command::run::{Said, Status};
+use crate::text::number::Count;
 use std::io::{self, BufWriter, ErrorKind, IsTerminal, StdoutLock, Write};
 use std::time::{Duration, Instant};
 
@@ -16,8 +17,9 @@ pub struct Output {
     /// By status.
     counts: [usize; 5],
     worst: Status,
-    /// When progress was shown last, where it is.
+    /// When progress was shown last, where it is to be; and whether it stands there.
     progress: Option<Instant>,
+    drawn: bool,
     failed: Option<io::Error>,
 }
 
@@ -32,6 +34,7 @@ impl Output {
             counts: [0; 5],
             worst: Status::Clean,
             progress: (files > 1 && io::stderr().is_terminal()).then(Instant::now),
+            drawn: false,
             failed: None,
         }
     }
@@ -40,12 +43,12 @@ impl Output {
     pub fn sheet(&mut self, said: &Said) -> bool {
         self.counts[said.status as usize] += 1;
         self.worst = self.worst.max(said.status);
-        let shown = self.progress.is_some();
-        if shown && (self.terminal || !said.err.is_empty()) {
-            tell("\r\x1b[K");
+        let at_once = self.terminal || !said.err.is_empty();
+        if at_once {
+            self.wipe();
         }
         let mut written = self.out.write_all(said.out.as_bytes());
-        if self.terminal || !said.err.is_empty() {
+        if at_once {
             written = written.and_then(|()| self.out.flush());
         }
         tell(&said.err);
@@ -56,16 +59,21 @@ impl Output {
 
     fn show_progress(&mut self) {
         if self.progress.is_some_and(|shown| shown.elapsed() >= OFTEN) {
-            self.progress = Some(Instant::now());
+            (self.progress, self.drawn) = (Some(Instant::now()), true);
             tell(&format!("\r\x1b[K{} of {} sheets", self.counts.iter().sum::<usize>(), self.files));
+        }
+    }
+
+    /// Takes the line of progress away.
+    fn wipe(&mut self) {
+        if std::mem::take(&mut self.drawn) {
+            tell("\r\x1b[K");
         }
     }
 
     /// What was found in all, if that is wanted; and the exit status.
     pub fn end(mut self, summary: bool) -> Status {
-        if self.progress.is_some() {
-            tell("\r\x1b[K");
-        }
+        self.wipe();
         if summary && self.failed.is_none() {
             self.failed = writeln!(self.out, "{}", sum(&self.counts)).err();
         }
@@ -104,11 +112,10 @@ pub fn tell(text: &str) {
 
 fn sum(counts: &[usize; 5]) -> String {
     let [clean, diagnostics, refused, unread, _] = counts;
-    let sheets = clean + diagnostics + refused;
-    let plural = if sheets == 1 { "" } else { "s" };
-    let mut text = format!("{sheets} sheet{plural}: {clean} accepted and clean, {diagnostics} with diagnostics, {refused} refused");
+    let sheets = Count(clean + diagnostics + refused, "sheet");
+    let mut text = format!("{sheets}: {clean} accepted and clean, {diagnostics} with diagnostics, {refused} refused");
     if *unread > 0 {
-        text += &format!("; {unread} file{} not read", if *unread == 1 { "" } else { "s" });
+        text += &format!("; {} not read", Count(*unread, "file"));
     }
     text
 }

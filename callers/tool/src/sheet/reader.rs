@@ -5,6 +5,7 @@ use crate::sheet::{
     Body, DERIVED, Form, ITEMS, Kinds, LAST_LIFETIME, LAST_NAME, MOST_BYTES, MOST_DERIVES, MOST_ITEMS, MOST_LIFETIMES, MOST_ROWS,
     MOST_VARIANTS, NONE, Pairs, Part, REFERENCE, ROWS, Sheet, row,
 };
+use crate::text::number::Count;
 use std::collections::HashMap;
 use std::fmt::{self, Display, Formatter};
 use std::hash::{BuildHasherDefault, Hasher};
@@ -52,7 +53,7 @@ struct Reader<'a> {
 impl<'a> Reader<'a> {
     fn sheet(&mut self) -> Result<()> {
         let (rows, items) = self.contents()?;
-        let mut seen = HashMap::with_hasher(BuildHasherDefault::<Fnv>::default());
+        let mut seen = HashMap::with_capacity_and_hasher(rows, BuildHasherDefault::<Fnv>::default());
         for number in 0..rows {
             self.bound = number;
             let start = self.begin("row", number, number)?;
@@ -71,8 +72,8 @@ impl<'a> Reader<'a> {
         self.body = None;
         let left = self.bytes.len() - self.at;
         if left > 0 {
-            let are = if left == 1 { " is" } else { "s are" };
-            return self.refuse(5, self.at, "after the last body", None, format_args!("the end of the sheet; {left} more byte{are} there"));
+            let left = Count(left, "byte");
+            return self.refuse(5, self.at, "after the last body", None, format_args!("the end of the sheet, and {left} more"));
         }
         Ok(())
     }
@@ -98,9 +99,10 @@ impl<'a> Reader<'a> {
         let [rows, items] = counts;
         self.at = 4 + 2 * (rows + items);
         if self.at > length {
-            let (bytes, offsets) = (self.at, rows + items);
-            let expected = format_args!("{bytes} bytes, for T, A and {offsets} offsets; the sheet has {length}");
-            return self.refuse(5, 0, format_args!("the contents of {rows} rows and {items} items"), None, expected);
+            let (bytes, offsets) = (self.at, Count(rows + items, "offset"));
+            let expected = format_args!("{bytes} bytes, for T, A and {offsets}; the sheet has {length}");
+            let contents = format_args!("the contents of {} and {}", Count(rows, "row"), Count(items, "item"));
+            return self.refuse(5, 0, contents, None, expected);
         }
         Ok((rows, items))
     }
@@ -252,6 +254,12 @@ impl<'a> Reader<'a> {
     fn rows(&mut self, what: &str, most: u16) -> Result<Pairs<'a>> {
         let count = self.count(what, most)?;
         let start = self.at;
+        let whole = self.bytes.get(start..start + 2 * count).map(Pairs);
+        if let Some(rows) = whole.filter(|rows| rows.iter().all(|row| usize::from(row) < self.bound)) {
+            self.at += 2 * count;
+            return Ok(rows);
+        }
+        // one of them is a fault
         for number in 0..count {
             self.row(format_args!("{what} {number}"), false)?;
         }
@@ -315,6 +323,7 @@ impl Display for Row {
             (Some(Which { word: "row", number: 0 }), _) => write!(f, "a row before row 0, and there is none")?,
             (Some(Which { word: "row", number }), _) => write!(f, "a row before row {number}")?,
             (_, 0) => write!(f, "a row, and the sheet has none")?,
+            (_, 1) => write!(f, "row 0, the only one")?,
             (_, bound) => write!(f, "a row, 0 to {}", bound - 1)?,
         }
         f.write_str(if self.none { ", or 65535 for none" } else { "" })

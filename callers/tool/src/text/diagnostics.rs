@@ -1,12 +1,14 @@
 //! Diagnostics in words: for each the Rust's text, the place, and the declaration with the part marked. What is said of several parts of one
 //! row or item is said once.
 
-use crate::declaration::{Declaration, Part, WIDTH};
-use crate::number;
-use crate::place;
-use crate::style::Style;
-use crate::texts;
-use crate::view::View;
+use crate::command::style::Style;
+use crate::text::declaration::Part;
+use crate::text::messages;
+use crate::text::number;
+use crate::text::place;
+use crate::text::uses::Use;
+use crate::text::view::View;
+use std::iter::once;
 use std::ops::Range;
 use tirvouez::{Letter, Record};
 
@@ -24,14 +26,13 @@ struct Frame {
 }
 
 /// Writes diagnostics; has buffers that serve them all.
-pub struct Words<'v, 'a> {
+pub struct Diagnostics<'v, 'a> {
     view: &'v View<'a>,
     frame: Frame,
-    wanted: Vec<Part>,
     marked: Vec<Range<usize>>,
 }
 
-impl<'v, 'a> Words<'v, 'a> {
+impl<'v, 'a> Diagnostics<'v, 'a> {
     pub fn new(view: &'v View<'a>, style: Style) -> Self {
         let Style { bold, error, frame, end, .. } = style;
         let frame = Frame {
@@ -42,25 +43,25 @@ impl<'v, 'a> Words<'v, 'a> {
             marks: format!("\n  {frame}|{end} {error}"),
             end: format!("{end}\n"),
         };
-        Self { view, frame, wanted: Vec::new(), marked: Vec::new() }
+        Self { view, frame, marked: Vec::new() }
     }
 
     pub fn push(&mut self, out: &mut String, records: &[Record]) {
-        // by text; the lists serve every run
-        let mut groups: Vec<Vec<Record>> = Vec::new();
+        // by what is said; the lists serve every run
+        let (mut said, mut groups) = (Vec::new(), Vec::<Vec<Record>>::new());
         for run in records.chunk_by(|a, b| (a.letter, a.first) == (b.letter, b.first)) {
-            let mut used = 0;
+            said.clear();
             for record in run {
-                let same = groups[..used].iter().position(|group| same_text(&group[0], record, self.view));
-                let place = same.unwrap_or(used);
-                if place == used {
-                    used += 1;
-                    groups.resize(groups.len().max(used), Vec::new());
+                let says = says(record, self.view);
+                let place = said.iter().position(|other| *other == says).unwrap_or(said.len());
+                if place == said.len() {
+                    said.push(says);
+                    groups.resize(groups.len().max(said.len()), Vec::new());
                     groups[place].clear();
                 }
                 groups[place].push(*record);
             }
-            for group in &groups[..used] {
+            for group in &groups[..said.len()] {
                 self.push_group(out, group);
             }
         }
@@ -71,24 +72,35 @@ impl<'v, 'a> Words<'v, 'a> {
         out.push_str(&self.frame.number);
         number::push(out, usize::from(records[0].message));
         out.push_str(&self.frame.text);
-        texts::push(out, &records[0], self.view);
+        messages::push(out, &records[0], self.view);
         out.push_str(&self.frame.place);
         place::push(out, records, self.view);
-        match self.view.place(&records[0]).and_then(|used| self.view.declaration(used.item)) {
-            Some(declaration) => self.push_declaration(out, declaration, records),
+        match self.view.place(&records[0]) {
+            Some(used) => self.push_declaration(out, used, records),
             None => out.push('\n'),
         }
     }
 
-    fn push_declaration(&mut self, out: &mut String, declaration: &Declaration, records: &[Record]) {
-        self.wanted.clear();
-        self.wanted.extend(records.iter().filter_map(|record| self.view.place(record)).map(|used| used.part));
+    fn push_declaration(&mut self, out: &mut String, used: Use, records: &[Record]) {
+        let Some(declaration) = self.view.declaration(used.item) else { return out.push('\n') };
+        let types = &self.view.types;
         self.marked.clear();
         out.push_str(&self.frame.declaration);
         let start = out.len();
-        declaration.push_near(out, &self.view.types, WIDTH, &self.wanted, &mut self.marked);
-        if let (Some(Letter::Row | Letter::RowArgument), [part]) = (Letter::of(records[0].letter), &mut self.marked[..]) {
-            *part = narrowed(part.clone(), self.view.types.text(records[0].first), out);
+        let of_row = matches!(Letter::of(records[0].letter), Some(Letter::Row | Letter::RowArgument));
+        match used.part {
+            Part::Listed(number) if of_row => declaration.push_near(out, types, once(usize::from(number)), &mut self.marked),
+            Part::Listed(_) => {
+                let numbers = records.iter().map(|record| usize::from(record.second));
+                declaration.push_near(out, types, numbers, &mut self.marked);
+            }
+            _ => {
+                let parts: Vec<Part> = records.iter().filter_map(|record| self.view.place(record)).map(|used| used.part).collect();
+                declaration.push_parts(out, types, &parts, &mut self.marked);
+            }
+        }
+        if let (true, [part]) = (of_row, &mut self.marked[..]) {
+            *part = narrowed(part.clone(), types.text(records[0].first), out);
         }
         let line = out.len();
         out.push_str(&self.frame.marks);
@@ -114,15 +126,19 @@ impl<'v, 'a> Words<'v, 'a> {
     }
 }
 
-/// Whether two records of one letter and one row or item have the same text.
-fn same_text(a: &Record, b: &Record, view: &View) -> bool {
-    let derived = |r: &Record| view.sheet.item(r.first).and_then(|item| item.derives.get(usize::from(r.second)));
-    let derives = || Letter::of(a.letter) != Some(Letter::Derive) || derived(a) == derived(b);
-    (a.message, a.detail) == (b.message, b.detail) && derives()
+/// What a record says of its part, message, detail and derive in one number: records of one letter and one row or item that say the same
+/// have the same text.
+fn says(record: &Record, view: &View) -> u64 {
+    let derive = || view.sheet.item(record.first)?.derives.get(usize::from(record.second));
+    let derive = if record.letter == Letter::Derive as u8 { derive() } else { None };
+    u64::from(record.message) << 32 | u64::from(record.detail) << 16 | u64::from(derive.unwrap_or_default())
 }
 
 /// The place of a row's text within the part that uses it, where it stands there.
 fn narrowed(part: Range<usize>, row: &str, text: &str) -> Range<usize> {
+    if text[part.clone()].strip_suffix(row).is_some_and(|before| before.ends_with(": ")) {
+        return part.end - row.len()..part.end;
+    }
     let word = |c: char| c.is_alphanumeric() || c == '_';
     let whole = |span: &Range<usize>| {
         !(row.starts_with(word) && text[..span.start].ends_with(word) || row.ends_with(word) && text[span.end..].starts_with(word))

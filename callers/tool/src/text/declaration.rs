@@ -1,13 +1,13 @@
 //! Items as a person knows them from a bridge: `struct n24 { f0: n25 }`.
 
-use crate::names::Names;
-use crate::number;
 use crate::sheet::{Body, DERIVED, Form, Pairs, item};
-use crate::types::{self, Types};
+use crate::text::names::Names;
+use crate::text::number::{self, Count};
+use crate::text::types::{self, Types};
 use std::ops::Range;
 
-/// Columns of a line from which on a list of fields or arguments is cut.
-pub const WIDTH: usize = 100;
+/// Columns of a line from which on a list of fields or arguments is cut: with what stands before it, eighty.
+const WIDTH: usize = 76;
 
 /// A part of a declaration that a diagnostic may be about.
 #[derive(Clone, Copy, Debug, PartialEq, Eq)]
@@ -28,8 +28,8 @@ pub struct Declaration<'a> {
     head: String,
     letter: char,
     rows: Pairs<'a>,
-    /// Columns of the fields or arguments, at most.
-    columns: usize,
+    /// Whether it is wider than a line.
+    wide: bool,
     tail: String,
     in_head: Vec<(Part, Range<usize>)>,
     in_tail: Option<Range<usize>>,
@@ -37,7 +37,7 @@ pub struct Declaration<'a> {
 
 impl<'a> Declaration<'a> {
     pub fn of(body: &Body<'a>, types: &Types, names: &Names) -> Self {
-        let mut made = Self::default();
+        let mut made = Self { head: String::with_capacity(WIDTH), ..Self::default() };
         made.derives(body.derives);
         match body.kind {
             item::INCLUDE => made.head += "include!(..)",
@@ -51,7 +51,9 @@ impl<'a> Declaration<'a> {
             }
             _ => made.implementation(body, types),
         }
-        made.columns = made.rows.iter().map(|row| types.length(row) + LISTED).sum();
+        let others = made.head.len() + made.tail.len();
+        let columns = |sum: usize, row| Some(sum + types.length(row) + LISTED).filter(|sum| *sum <= WIDTH);
+        made.wide = made.rows.iter().try_fold(others, columns).is_none();
         made
     }
 
@@ -104,8 +106,8 @@ impl<'a> Declaration<'a> {
             self.part(Part::Row, repr);
             self.head += " */";
         }
-        let plural = if body.variants == 1 { "" } else { "s" };
-        self.head += &format!(" {{ /* {} variant{plural}, {} default */ }}", body.variants, body.defaults);
+        let variants = Count(usize::from(body.variants), "variant");
+        self.head += &format!(" {{ /* {variants}, {} default */ }}", body.defaults);
     }
 
     fn extern_type(&mut self, body: &Body, names: &Names) {
@@ -151,48 +153,54 @@ impl<'a> Declaration<'a> {
 
     /// The whole declaration.
     pub fn push(&self, out: &mut String, types: &Types) {
-        self.push_near(out, types, usize::MAX, &[], &mut Vec::new());
-    }
-
-    /// The declaration; where that is wider, what is near the first of the wanted parts. `found` gets the places of those that are shown.
-    pub fn push_near(&self, out: &mut String, types: &Types, width: usize, wanted: &[Part], found: &mut Vec<Range<usize>>) {
-        let start = out.len();
         out.push_str(&self.head);
-        let in_head = self.in_head.iter().filter(|(part, _)| wanted.contains(part));
-        found.extend(in_head.map(|(_, span)| start + span.start..start + span.end));
-        self.push_listed(out, types, width, wanted, found);
-        let start = out.len();
-        out.push_str(&self.tail);
-        if let Some(span) = self.in_tail.as_ref().filter(|_| wanted.contains(&Part::Return)) {
-            found.push(start + span.start..start + span.end);
+        for number in 0..self.rows.len() {
+            out.push_str(if number > 0 { ", " } else { "" });
+            self.push_listed(out, types, number);
         }
+        out.push_str(&self.tail);
     }
 
-    /// Fields or arguments, from the first wanted one where not all have room.
-    fn push_listed(&self, out: &mut String, types: &Types, width: usize, wanted: &[Part], found: &mut Vec<Range<usize>>) {
-        let room = width.saturating_sub(self.head.len() + self.tail.len());
-        let cut = self.columns > room;
-        let listed = |part: &Part| if let Part::Listed(number) = part { Some(usize::from(*number)) } else { None };
-        let mut numbers = wanted.iter().filter_map(listed).peekable();
-        let from = numbers.peek().copied().filter(|_| cut).unwrap_or(0);
+    fn push_listed(&self, out: &mut String, types: &Types, number: usize) {
+        out.push(self.letter);
+        number::push(out, number);
+        out.push_str(": ");
+        types.push(out, self.rows.get(number).unwrap_or_default());
+    }
+
+    /// The declaration; of one that is wider than a line, what has room after the head. `found` gets the places of the wanted parts.
+    pub fn push_parts(&self, out: &mut String, types: &Types, wanted: &[Part], found: &mut Vec<Range<usize>>) {
+        let head = out.len();
+        self.push_near(out, types, std::iter::empty(), found);
+        let tail = out.len() - self.tail.len();
+        let in_tail = self.in_tail.iter().map(|span| (tail, Part::Return, span));
+        let parts = self.in_head.iter().map(|(part, span)| (head, *part, span)).chain(in_tail);
+        found.extend(parts.filter(|(_, part, _)| wanted.contains(part)).map(|(start, _, span)| start + span.start..start + span.end));
+    }
+
+    /// The declaration; of one that is wider than a line, what has room after the first of the wanted fields or arguments, whose numbers rise.
+    /// `found` gets the places of those that are shown.
+    pub fn push_near(&self, out: &mut String, types: &Types, wanted: impl Iterator<Item = usize>, found: &mut Vec<Range<usize>>) {
+        let mut wanted = wanted.peekable();
         let begin = out.len();
+        out.push_str(&self.head);
+        let from = wanted.peek().copied().filter(|_| self.wide).unwrap_or(0);
         out.push_str(if from > 0 { "..., " } else { "" });
-        for (number, row) in self.rows.iter().enumerate().skip(from) {
+        for number in from..self.rows.len() {
             let before = out.len();
             out.push_str(if number > from { ", " } else { "" });
             let start = out.len();
-            out.push(self.letter);
-            number::push(out, number);
-            out.push_str(": ");
-            types.push(out, row);
-            if cut && number > from && out.len() - begin > room {
+            self.push_listed(out, types, number);
+            if self.wide && number > from && out.len() - begin + self.tail.len() > WIDTH {
                 out.truncate(before);
-                return out.push_str(", ...");
+                out.push_str(", ...");
+                break;
             }
-            if numbers.next_if_eq(&number).is_some() {
+            if wanted.next_if_eq(&number).is_some() {
                 found.push(start..out.len());
             }
         }
+        out.push_str(&self.tail);
     }
 }
 

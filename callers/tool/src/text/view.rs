@@ -1,10 +1,10 @@
 //! A sheet in the words of a person: texts of rows and declarations, and where rows are used. What a sheet does not need is not made.
 
-use crate::declaration::{Declaration, Part};
-use crate::names::Names;
 use crate::sheet::Sheet;
-use crate::types::Types;
-use crate::uses::{self, ByValue, Use};
+use crate::text::declaration::{Declaration, Part};
+use crate::text::names::Names;
+use crate::text::types::Types;
+use crate::text::uses::{self, ByValue, Use};
 use std::cell::OnceCell;
 use tirvouez::{Letter, Record};
 

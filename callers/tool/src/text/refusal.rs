@@ -1,7 +1,7 @@
 //! A refusal in words: what the reader expected, and the bytes around.
 
-use crate::reader::Fault;
-use crate::style::Style;
+use crate::command::style::Style;
+use crate::sheet::reader::Fault;
 use std::fmt::Write;
 use std::ops::Range;
 

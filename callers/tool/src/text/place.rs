@@ -1,10 +1,10 @@
 //! A diagnostic's place in words: `field 2 of item 1`, ``row 3, `Vec<n25>`, in argument 0 of item 4``.
 
-use crate::declaration::Part;
-use crate::number;
-use crate::sheet::{Pairs, item};
-use crate::uses::Use;
-use crate::view::View;
+use crate::sheet::item;
+use crate::text::declaration::Part;
+use crate::text::number;
+use crate::text::uses::Use;
+use crate::text::view::View;
 use tirvouez::{Letter, Record};
 
 /// The place of records that stand together.
@@ -73,13 +73,5 @@ fn push_numbers(out: &mut String, word: &str, records: &[Record]) {
             out.push_str(if run.len() > 2 { " to " } else { ", " });
             number::push(out, usize::from(last.second));
         }
-    }
-}
-
-/// All pairs, in decimal, with blanks between.
-pub fn push_pairs(out: &mut String, pairs: Pairs) {
-    for (number, pair) in pairs.iter().enumerate() {
-        out.push_str(if number > 0 { " " } else { "" });
-        number::push(out, usize::from(pair));
     }
 }

@@ -1,12 +1,14 @@
 //! `tirvouez check`: what is wrong with a sheet, in words or as data.
 
-use crate::data;
-use crate::reader;
-use crate::refusal;
-use crate::run::{Context, Said, Status};
-use crate::style::Style;
-use crate::view::View;
-use crate::words::Words;
+use crate::command::arguments::Form;
+use crate::command::run::{Context, Said, Status};
+use crate::command::style::Style;
+use crate::sheet::reader;
+use crate::text::data;
+use crate::text::diagnostics::Diagnostics;
+use crate::text::number::Count;
+use crate::text::refusal;
+use crate::text::view::View;
 use tirvouez::{Answer, Record};
 
 pub fn check(context: &Context, file: &str, sheet: &[u8], answer: Answer) -> Said {
@@ -15,13 +17,12 @@ pub fn check(context: &Context, file: &str, sheet: &[u8], answer: Answer) -> Sai
         Ok(()) => Status::Diagnostics,
         Err(_) => Status::Refused,
     };
-    // room for most of what is said
-    let mut out = String::with_capacity(if context.brief { 100 } else { 100 + 100 * answer.total() });
-    if context.json {
-        data::push(&mut out, file, sheet, answer, context.names);
-    } else {
-        push_verdict(&mut out, file, answer, &context.style);
-        if !context.brief {
+    let mut out = String::new();
+    match context.form {
+        Form::Json => data::push(&mut out, file, sheet, answer, context.names),
+        Form::Brief => push_verdict(&mut out, file, answer, &context.style),
+        _ => {
+            push_verdict(&mut out, file, answer, &context.style);
             push_words(&mut out, context, sheet, answer);
         }
     }
@@ -33,8 +34,7 @@ pub fn push_verdict(out: &mut String, file: &str, answer: Answer, style: &Style)
     let Style { bold, error, good, end, .. } = style;
     let verdict = match (answer.verdict(), answer.total()) {
         (Ok(()), 0) => format!("{good}accepted{end}"),
-        (Ok(()), 1) => format!("accepted, {error}1 diagnostic{end}"),
-        (Ok(()), total) => format!("accepted, {error}{total} diagnostics{end}"),
+        (Ok(()), total) => format!("accepted, {error}{}{end}", Count(total, "diagnostic")),
         (Err((number, position)), _) => format!("{error}refused {number} at {position}{end}"),
     };
     *out += &format!("{bold}{file}{end}: {verdict}\n");
@@ -51,6 +51,8 @@ fn push_words(out: &mut String, context: &Context, sheet: &[u8], answer: Answer)
     }
     let view = View::new(read, context.names);
     let records: Vec<Record> = answer.records().collect();
-    Words::new(&view, context.style).push(out, &records);
+    // room for most of what is said
+    out.reserve(100 * records.len());
+    Diagnostics::new(&view, context.style).push(out, &records);
     out.push('\n');
 }

@@ -42,7 +42,7 @@ fn sheets(folder: &Path) -> io::Result<Vec<PathBuf>> {
 }
 
 impl Input {
-    /// As it is called in what is printed: control characters would do things to a terminal.
+    /// As it was given; what is no UTF-8 in it is replaced.
     pub fn name(&self) -> String {
         match self {
             Input::Standard => "-".to_owned(),
@@ -83,7 +83,7 @@ pub fn text(path: &Path) -> Result<String, String> {
     String::from_utf8(bytes).map_err(|_| "it is no text in UTF-8".to_owned())
 }
 
-/// A text without control characters.
+/// A text without control characters, which would do things to a terminal.
 pub fn printable(text: &str) -> String {
     text.chars().map(|c| if c.is_control() { c.escape_default().to_string() } else { c.to_string() }).collect()
 }

@@ -1,24 +1,22 @@
 //! Runs a word on every sheet, with all cores, and prints what is said of each in the files' order.
 
-use crate::arguments::{Options, Word};
-use crate::files::{self, Input};
-use crate::names::Names;
-use crate::output::{Output, tell};
-use crate::parallel;
-use crate::style::Style;
-use crate::{check, order, show};
+use crate::command::arguments::{Form, Options, Word};
+use crate::command::files::{self, Input};
+use crate::command::output::{Output, tell};
+use crate::command::parallel;
+use crate::command::style::Style;
+use crate::text::names::Names;
+use crate::words::{check, order, show};
 use std::io::IsTerminal;
 use std::ops::ControlFlow;
 use tirvouez::Checker;
 
 /// How a sheet is spoken of.
+#[derive(Clone, Copy)]
 pub struct Context<'a> {
     pub names: &'a Names,
     pub style: Style,
-    pub json: bool,
-    pub brief: bool,
-    pub rows: bool,
-    pub dot: bool,
+    pub form: Form,
 }
 
 /// What is said of a sheet.
@@ -54,14 +52,8 @@ pub fn run(options: &Options) -> Status {
             return Status::Unread;
         }
     };
-    let context = Context {
-        names: &names,
-        style: Style::of(std::io::stdout().is_terminal() && !options.json && !options.rows && !options.dot),
-        json: options.json,
-        brief: options.brief,
-        rows: options.rows,
-        dot: options.dot,
-    };
+    let coloured = matches!(options.form, Form::Words | Form::Brief) && std::io::stdout().is_terminal();
+    let context = Context { names: &names, style: Style::of(coloured), form: options.form };
     let inputs = files::listed(&options.files);
     let threads = std::thread::available_parallelism().map_or(1, |threads| threads.get());
     let mut output = Output::new(inputs.len());
@@ -71,7 +63,7 @@ pub fn run(options: &Options) -> Status {
         true => ControlFlow::Continue(()),
         false => ControlFlow::Break(()),
     });
-    output.end(options.word == Word::Check && !options.json && inputs.len() > 1)
+    output.end(options.word == Word::Check && options.form != Form::Json && inputs.len() > 1)
 }
 
 fn names(options: &Options) -> Result<Names, String> {
@@ -93,7 +85,7 @@ fn said(word: Word, context: &Context, input: &Input, worker: &mut Worker) -> Sa
         Err(unreadable) => return trouble(unreadable.to_string()),
     };
     // data has the name as it is, JSON's escapes do the rest
-    let file = if context.json { input.name() } else { files::printable(&input.name()) };
+    let file = if context.form == Form::Json { input.name() } else { files::printable(&input.name()) };
     match word {
         Word::Show => show::show(context, &file, &worker.bytes, answer),
         Word::Order => order::order(context, &file, &worker.bytes, answer),

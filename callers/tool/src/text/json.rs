@@ -1,6 +1,6 @@
 //! JSON, written part by part.
 
-use crate::number;
+use crate::text::number;
 
 /// A text, quoted.
 pub fn string(out: &mut String, text: &str) {

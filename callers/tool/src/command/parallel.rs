@@ -3,9 +3,10 @@
 use std::collections::HashMap;
 use std::ops::ControlFlow;
 use std::sync::{Condvar, Mutex, MutexGuard, PoisonError};
+use std::thread;
 
-/// How far the work may be ahead of the taking, so that outputs do not pile up.
-const AHEAD: usize = 256;
+/// How far each thread may be ahead of the taking, so that outputs do not pile up.
+const AHEAD: usize = 8;
 
 struct State<O> {
     /// The next input to work on, and the next output to take.
@@ -18,6 +19,7 @@ struct State<O> {
 struct Queue<O> {
     state: Mutex<State<O>>,
     changed: Condvar,
+    ahead: usize,
 }
 
 impl<O> Queue<O> {
@@ -31,7 +33,7 @@ impl<O> Queue<O> {
 
     /// The number of an input that nobody has worked on.
     fn input(&self, count: usize) -> Option<usize> {
-        let mut state = self.wait(self.lock(), |state| state.stopped || state.next < state.taken + AHEAD);
+        let mut state = self.wait(self.lock(), |state| state.stopped || state.next < state.taken + self.ahead);
         let number = state.next;
         state.next += 1;
         (number < count && !state.stopped).then_some(number)
@@ -54,7 +56,7 @@ impl<O> Queue<O> {
         state.taken += 1;
         let output = state.ready.remove(&number);
         // those who wait for room
-        if state.next >= number + AHEAD {
+        if state.next >= number + self.ahead {
             self.changed.notify_all();
         }
         output
@@ -77,7 +79,8 @@ impl<O> Drop for Watch<'_, O> {
     }
 }
 
-/// Each thread makes a worker of its own. Ends before the last input where `take` says so.
+/// Each thread makes a worker of its own; where there can be none, or none is needed, this one works alone. Ends before the last input where
+/// `take` says so.
 pub fn in_order<I: Sync, O: Send, W>(
     inputs: &[I],
     threads: usize,
@@ -86,7 +89,7 @@ pub fn in_order<I: Sync, O: Send, W>(
     mut take: impl FnMut(O) -> ControlFlow<()>,
 ) {
     let state = State { next: 0, taken: 0, ready: HashMap::new(), stopped: false };
-    let queue = Queue { state: Mutex::new(state), changed: Condvar::new() };
+    let queue = Queue { state: Mutex::new(state), changed: Condvar::new(), ahead: AHEAD * threads };
     let run = || {
         let _watch = Watch(&queue);
         let mut worker = worker();
@@ -94,15 +97,59 @@ pub fn in_order<I: Sync, O: Send, W>(
             queue.put(number, work(&mut worker, &inputs[number]));
         }
     };
-    std::thread::scope(|scope| {
-        for _ in 0..threads.min(inputs.len()) {
-            scope.spawn(run);
-        }
-        for _ in inputs {
-            if queue.take().is_none_or(|output| take(output).is_break()) {
+    thread::scope(|scope| {
+        let wanted = if inputs.len() > 1 { threads.min(inputs.len()) } else { 0 };
+        let crew = (0..wanted).map_while(|_| thread::Builder::new().spawn_scoped(scope, run).ok()).count();
+        let mut alone = (crew == 0).then(&worker);
+        for input in inputs {
+            let output = match &mut alone {
+                Some(worker) => Some(work(worker, input)),
+                None => queue.take(),
+            };
+            if output.is_none_or(|output| take(output).is_break()) {
                 break;
             }
         }
         queue.stop();
     });
+}
+
+#[cfg(test)]
+mod tests {
+    use super::*;
+
+    fn outputs(count: usize, threads: usize, end: usize) -> Vec<usize> {
+        let (inputs, mut taken): (Vec<usize>, _) = ((0..count).collect(), Vec::new());
+        let work = |_: &mut (), input: &usize| {
+            // the later ones are often ready first
+            thread::sleep(std::time::Duration::from_micros(*input as u64 * 37 % 11));
+            *input
+        };
+        in_order(
+            &inputs,
+            threads,
+            || (),
+            work,
+            |output| {
+                taken.push(output);
+                if output == end { ControlFlow::Break(()) } else { ControlFlow::Continue(()) }
+            },
+        );
+        taken
+    }
+
+    #[test]
+    fn in_the_order_of_the_inputs() {
+        for (count, threads) in [(0, 4), (1, 4), (2, 4), (1_000, 1), (1_000, 4)] {
+            assert!(outputs(count, threads, usize::MAX).into_iter().eq(0..count), "{count} by {threads}");
+        }
+        assert!(outputs(1_000, 4, 300).into_iter().eq(0..=300), "ended early");
+    }
+
+    #[test]
+    fn a_panic_is_handed_on() {
+        let inputs = [1, 2, 3, 4, 5, 6, 7, 8];
+        let run = || in_order(&inputs, 2, || (), |_, input| assert_ne!(*input, 5), |_| ControlFlow::Continue(()));
+        assert!(std::panic::catch_unwind(run).is_err());
+    }
 }

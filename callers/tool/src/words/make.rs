@@ -2,10 +2,10 @@
 //! not read. The contents (how many rows and items, and the place of each body) are worked out here. What the pairs mean is not asked: a
 //! sheet that will be refused can be made too.
 
-use crate::arguments::Options;
-use crate::files;
-use crate::output::{self, tell};
-use crate::run::Status;
+use crate::command::arguments::Options;
+use crate::command::files;
+use crate::command::output::{self, tell};
+use crate::command::run::Status;
 use crate::sheet::MOST_BYTES;
 use std::path::{Path, PathBuf};
 

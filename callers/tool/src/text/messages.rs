@@ -1,7 +1,7 @@
 //! The Rust's own text of each message: docs/MESSAGES.md's tables, with what varies put in.
 
 use crate::sheet::{Body, DERIVED, Form, item};
-use crate::view::View;
+use crate::text::view::View;
 use std::borrow::Cow;
 use std::sync::LazyLock;
 use tirvouez::Record;
@@ -13,14 +13,29 @@ const VARIES: char = '…';
 struct Page {
     messages: Vec<Vec<&'static str>>,
     branches: Vec<Vec<&'static str>>,
+    /// By message and detail, the texts that these decide.
+    decided: Vec<Vec<String>>,
 }
 
 static PAGE: LazyLock<Page> = LazyLock::new(|| {
-    let page = include_str!("../../../docs/MESSAGES.md");
+    let page = include_str!("../../../../docs/MESSAGES.md");
     let (messages, branches) = page.split_once("### The branches of `describe`").unwrap_or((page, ""));
     let (messages, _) = messages.split_once("## Details").unwrap_or((messages, ""));
-    Page { messages: column(messages, "Text"), branches: column(branches, "Text") }
+    let (messages, branches) = (column(messages, "Text"), column(branches, "Text"));
+    let decided = (0..).zip(&messages).map(|(message, pieces)| decided(message, pieces, &branches)).collect();
+    Page { messages, branches, decided }
 });
+
+/// The texts of a message by detail; empty where more than that decides it.
+fn decided(message: u8, pieces: &[&str], branches: &[Vec<&str>]) -> Vec<String> {
+    match (message, pieces) {
+        (32 | 49 | 51, [before, behind]) => {
+            branches.iter().map(|branch| if let [what] = branch[..] { format!("{before}{what}{behind}") } else { String::new() }).collect()
+        }
+        (_, [whole]) => vec![(*whole).to_owned()],
+        _ => Vec::new(),
+    }
+}
 
 /// A column of all tables of a text, by the number that a line begins with.
 fn column(text: &'static str, heading: &str) -> Vec<Vec<&'static str>> {
@@ -47,13 +62,13 @@ pub fn of(record: &Record, view: &View) -> String {
 }
 
 pub fn push(out: &mut String, record: &Record, view: &View) {
+    if let Some(text) = by_detail(record) {
+        return out.push_str(text);
+    }
     let Some(pieces) = PAGE.messages.get(usize::from(record.message)).filter(|pieces| !pieces.is_empty()) else {
         // a message of a later library
         return out.push_str(&format!("message {}", record.message));
     };
-    if let [whole] = pieces[..] {
-        return out.push_str(whole);
-    }
     let varying = varying(record, view);
     for (number, piece) in pieces.iter().enumerate() {
         if number > 0 {
@@ -63,10 +78,10 @@ pub fn push(out: &mut String, record: &Record, view: &View) {
     }
 }
 
-/// Whether message and detail decide a record's text.
-pub fn decided(record: &Record) -> bool {
-    let fixed = PAGE.messages.get(usize::from(record.message)).is_none_or(|pieces| pieces.len() < 2);
-    fixed || matches!(record.message, 32 | 49 | 51) && PAGE.branches.get(usize::from(record.detail)).is_some_and(|pieces| pieces.len() == 1)
+/// The text of a record, where message and detail decide it.
+pub fn by_detail(record: &Record) -> Option<&'static str> {
+    let texts = PAGE.decided.get(usize::from(record.message))?;
+    texts.get(usize::from(record.detail)).filter(|text| !text.is_empty()).map(|text| &text[..])
 }
 
 /// What stands in the place of each part that varies.

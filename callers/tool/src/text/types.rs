@@ -1,8 +1,8 @@
 //! Rows as a person knows them from a bridge: `[u8; 4]`, `UniquePtr<n27>`.
 
-use crate::names::Names;
-use crate::number;
 use crate::sheet::{Body, ROWS, Sheet, row};
+use crate::text::names::Names;
+use crate::text::number;
 use std::ops::Range;
 
 /// A type within another text is written as `#7`, by its row, where its own text is longer and more than a name. So no text grows beyond

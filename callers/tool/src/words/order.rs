@@ -1,13 +1,14 @@
 //! `tirvouez order`: the structs in order, with tiers, and what each holds.
 
-use crate::check::push_verdict;
-use crate::json;
-use crate::number;
-use crate::reader;
-use crate::refusal;
-use crate::run::{Context, Said, Status};
+use crate::command::arguments::Form;
+use crate::command::run::{Context, Said, Status};
+use crate::sheet::reader;
 use crate::sheet::{NAMES, Sheet, item};
-use crate::view::View;
+use crate::text::json;
+use crate::text::names::Names;
+use crate::text::number::{self, Count};
+use crate::text::refusal;
+use crate::words::check::push_verdict;
 use std::collections::HashSet;
 use std::fmt::Write;
 use tirvouez::{Answer, Letter};
@@ -34,28 +35,25 @@ struct Field {
 pub fn order(context: &Context, file: &str, sheet: &[u8], answer: Answer) -> Said {
     let (mut out, mut err) = (String::new(), String::new());
     let (read, fault) = reader::read(sheet);
-    if context.json {
+    if context.form == Form::Json {
         json::begin(&mut out, file, answer.verdict());
     }
     if let Err(verdict) = answer.verdict() {
-        if context.json {
-            out.push_str("}\n");
-        } else if context.dot {
-            err = format!("{file}: refused {} at {}\n", verdict.0, verdict.1);
-        } else {
-            push_verdict(&mut out, file, answer, &context.style);
-            refusal::push(&mut out, verdict, fault.as_ref(), sheet, &context.style);
+        match context.form {
+            Form::Json => out.push_str("}\n"),
+            Form::Dot => err = format!("{file}: refused {} at {}\n", verdict.0, verdict.1),
+            _ => {
+                push_verdict(&mut out, file, answer, &context.style);
+                refusal::push(&mut out, verdict, fault.as_ref(), sheet, &context.style);
+            }
         }
         return Said { out, err, status: Status::Refused };
     }
-    let view = View::new(read, context.names);
-    let structs = structs(&view.sheet, answer);
-    if context.json {
-        push_json(&mut out, &structs);
-    } else if context.dot {
-        push_dot(&mut out, file, &structs, &view);
-    } else {
-        push_text(&mut out, context, file, &structs);
+    let structs = structs(&read, answer);
+    match context.form {
+        Form::Json => push_json(&mut out, &structs),
+        Form::Dot => push_dot(&mut out, file, &structs, context.names),
+        _ => push_text(&mut out, context, file, &structs),
     }
     Said { out, err, status: Status::Clean }
 }
@@ -82,8 +80,7 @@ fn structs(sheet: &Sheet, answer: Answer) -> Vec<Struct> {
 
 fn push_text(out: &mut String, context: &Context, file: &str, structs: &[Struct]) {
     let style = &context.style;
-    let count = structs.len();
-    let _ = writeln!(out, "{}{file}{}: {count} struct{}", style.bold, style.end, if count == 1 { "" } else { "s" });
+    let _ = writeln!(out, "{}{file}{}: {}", style.bold, style.end, Count(structs.len(), "struct"));
     for (number, strukt) in structs.iter().enumerate() {
         let _ = write!(out, "{}. item {} {}, tier {}", number + 1, strukt.item, context.names.of(strukt.name), strukt.tier);
         out.push_str(if strukt.tier == ENDLESS { " (a chain from it never ends)" } else { "" });
@@ -104,11 +101,11 @@ fn push_text(out: &mut String, context: &Context, file: &str, structs: &[Struct]
 }
 
 /// A graph for Graphviz: struct items, and a line for each field that leads to one.
-fn push_dot(out: &mut String, file: &str, structs: &[Struct], view: &View) {
+fn push_dot(out: &mut String, file: &str, structs: &[Struct], names: &Names) {
     let quoted = |text: &str| text.replace('\\', "\\\\").replace('"', "\\\"");
     let _ = writeln!(out, "digraph \"{}\" {{", quoted(file));
     for Struct { item, name, tier, .. } in structs {
-        let _ = writeln!(out, "  i{item} [label=\"{}\\nitem {item}, tier {tier}\"];", quoted(view.names.of(*name)));
+        let _ = writeln!(out, "  i{item} [label=\"{}\\nitem {item}, tier {tier}\"];", quoted(names.of(*name)));
     }
     for Struct { item, holds, .. } in structs {
         for Field { field, item: to, cyclic } in holds {

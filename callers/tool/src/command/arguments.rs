@@ -39,15 +39,24 @@ pub enum Word {
     Make,
 }
 
+/// What a sheet's text is to be.
+#[derive(Clone, Copy, Debug, Default, PartialEq, Eq)]
+pub enum Form {
+    #[default]
+    Words,
+    Brief,
+    Json,
+    Rows,
+    Dot,
+}
+
 #[derive(Clone, Debug, Default, PartialEq, Eq)]
 pub struct Options {
     pub word: Word,
     pub files: Vec<PathBuf>,
     pub names: Option<PathBuf>,
-    pub json: bool,
-    pub brief: bool,
-    pub rows: bool,
-    pub dot: bool,
+    pub form: Form,
+    /// Of make: compare only.
     pub check: bool,
     pub output: Option<PathBuf>,
 }
@@ -112,35 +121,41 @@ fn options(word: Word, mut arguments: impl Iterator<Item = OsString>) -> Result<
 }
 
 fn set(made: &mut Options, option: &str, value: Option<OsString>, rest: &mut impl Iterator<Item = OsString>) -> Result<(), String> {
-    let place = match option {
-        "--names" => &mut made.names,
-        "--output" => &mut made.output,
+    let form = match option {
+        "--names" => return set_file(&mut made.names, option, value.or_else(|| rest.next())),
+        "--output" => return set_file(&mut made.output, option, value.or_else(|| rest.next())),
         _ if value.is_some() => return Err(format!("the option {option} has no value")),
+        "--brief" => Form::Brief,
+        "--json" => Form::Json,
+        "--rows" => Form::Rows,
+        "--dot" => Form::Dot,
         _ => {
-            *match option {
-                "--json" => &mut made.json,
-                "--brief" => &mut made.brief,
-                "--rows" => &mut made.rows,
-                "--dot" => &mut made.dot,
-                _ => &mut made.check,
-            } = true;
+            made.check = true;
             return Ok(());
         }
     };
-    let value = value.or_else(|| rest.next()).ok_or_else(|| format!("the option {option} needs a file"))?;
-    if place.replace(value.into()).is_some() {
-        return Err(format!("the option {option} is there twice"));
+    if made.form != Form::Words && made.form != form {
+        return Err(format!("{option} does not go with the form before it"));
     }
+    made.form = form;
     Ok(())
+}
+
+fn set_file(place: &mut Option<PathBuf>, option: &str, value: Option<OsString>) -> Result<(), String> {
+    let value = value.ok_or_else(|| format!("the option {option} needs a file"))?;
+    match place.replace(value.into()) {
+        None => Ok(()),
+        Some(_) => Err(format!("the option {option} is there twice")),
+    }
 }
 
 /// What does not go together.
 fn sensible(made: &Options) -> Result<(), String> {
-    let standard = made.files.iter().chain(&made.names).filter(|file| file.as_os_str() == "-").count();
+    let is_standard = |file: &PathBuf| file.as_os_str() == "-";
+    let standard = made.files.iter().filter(|file| is_standard(file)).count();
     let faults = [
         (made.files.is_empty(), "a file is missing; - is standard input"),
-        (standard > 1 || made.names.as_ref().is_some_and(|names| names.as_os_str() == "-"), "standard input is one sheet"),
-        (made.json && (made.brief || made.rows || made.dot), "--json is a form of its own, and goes with no other"),
+        (standard > 1 || made.names.as_ref().is_some_and(is_standard), "standard input is one sheet"),
         (made.output.is_some() && (made.files.len() != 1 || made.check), "--output is for one file, and not with --check"),
     ];
     faults.into_iter().find(|(wrong, _)| *wrong).map_or(Ok(()), |(_, fault)| Err(fault.to_owned()))

@@ -1,5 +1,7 @@
 //! What stands in a sheet, by docs/SHEET.md: the parts of each kind of body, in their order. `reader` reads by these tables.
 
+pub mod reader;
+
 pub const MOST_BYTES: usize = 32_768;
 pub const MOST_ROWS: u16 = 1_024;
 pub const MOST_ITEMS: u16 = 255;

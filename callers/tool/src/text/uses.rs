@@ -1,8 +1,8 @@
 //! Where rows and names are used: the first item that comes to each row, and what a name that must be trivial is used as.
 
-use crate::declaration::Part;
-use crate::names::Names;
 use crate::sheet::{Body, NAMES, Sheet, item, row};
+use crate::text::declaration::Part;
+use crate::text::names::Names;
 
 /// The item and the part of it that a row is in.
 #[derive(Clone, Copy, Debug, PartialEq, Eq)]
@@ -14,14 +14,18 @@ pub struct Use {
 /// For each row the first use, in the order of collecting; none for a row that no item comes to.
 pub fn first(sheet: &Sheet) -> Vec<Option<Use>> {
     let mut found = vec![None; sheet.rows.len()];
-    let mut open = Vec::new();
+    let (mut left, mut open) = (found.len(), Vec::new());
     for (number, body) in sheet.items.iter().enumerate() {
+        if left == 0 {
+            break;
+        }
         for (part, row) in of_item(body) {
             let mut next = Some(row);
             while let Some(row) = next {
                 let place = &mut found[usize::from(row)];
                 if place.is_none() {
                     *place = Some(Use { item: number as u16, part });
+                    left -= 1;
                     let body = &sheet.rows[usize::from(row)];
                     open.extend(body.rows.iter().chain(body.ret));
                 }

@@ -1,0 +1,12 @@
+pub mod data;
+pub mod declaration;
+pub mod diagnostics;
+pub mod json;
+pub mod messages;
+pub mod names;
+pub mod number;
+pub mod place;
+pub mod refusal;
+pub mod types;
+pub mod uses;
+pub mod view;

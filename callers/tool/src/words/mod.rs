@@ -1,0 +1,4 @@
+pub mod check;
+pub mod make;
+pub mod order;
+pub mod show;
