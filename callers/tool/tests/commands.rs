@@ -1,6 +1,8 @@
 //! The program as its users run it: what it prints where, and how it ends.
 
+use std::ffi::{OsStr, OsString};
 use std::io::Write;
+use std::os::unix::ffi::{OsStrExt, OsStringExt};
 use std::path::{Path, PathBuf};
 use std::process::{Command, Output, Stdio};
 
@@ -104,12 +106,12 @@ fn where_the_sheet_ends() {
     let (_, out, _) = with_input(&["check", "-"], &[1, 0, 0, 0, 6, 0, 0]);
     let expected = "-: refused 5 at 7
  --> row 0, kind
-  | expected a kind, 0 to 13; the sheet ends before
+  | expected a kind of row, 0 (Ident) to 13 (Void); the sheet ends before
   |
   | byte      0      2      4      6      7
-  | hex   01 00  00 00  06 00     00
+  | hex   01 00  00 00  06 00  00
   | pair      1      0      6
-  |                            ^^^^^  ^ the sheet ends here
+  |                                   ^ the sheet ends here
 
 ";
     assert_eq!(out, expected);
@@ -119,7 +121,7 @@ fn where_the_sheet_ends() {
 fn texts_of_sheets() {
     let shown = run(&["show", "--names", "samples/cutter.names", "samples/cutter.sheet"]).1;
     let lines: Vec<&str> = shown.lines().collect();
-    assert_eq!((lines[0], lines.len()), ("samples/cutter.sheet: 17 rows, 13 items", 31));
+    assert_eq!((lines[0], lines.len()), ("samples/cutter.sheet: 17 rows, 13 items", 32));
     for line in [
         "row 16: CxxVector<Point>",
         "item 1: #[derive(Clone, Copy)] struct Point { f0: i32, f1: i32 }",
@@ -167,8 +169,74 @@ item 7: #[Self = \"n24\"] extern \"C++-unwind\" unsafe fn n31<'l1, 'l2>(a0: unsa
 item 8: extern \"Rust\" unsafe fn n32(self: &mut Self, a0: Pin<&u8>) -> ()
 item 9: #[derive(Clone, Copy)] extern \"C++\" type n33 = ..
 item 10: impl<'l7> !UniquePtr<n27> {}
+
 ";
     assert_eq!(shown.1, expected);
+}
+
+/// The line with a diagnostic's declaration, its marks and what follows, of a sheet as rows.
+fn declared(rows: &str, error: &str) -> String {
+    let sheet = piped(&["make", "-"], rows.as_bytes()).stdout;
+    let out = with_input(&["check", "-"], &sheet).1;
+    let block = out.split("\n\n").find(|block| block.starts_with(error)).unwrap_or_else(|| panic!("{out}"));
+    block.lines().skip(2).map(|line| line.to_owned() + "\n").collect()
+}
+
+#[test]
+fn the_part_that_is_meant() {
+    // the row, not another with its text in it
+    let rows = "row 0 24\nrow 7 3 0\nrow 7 1 0\nrow 12 0 65535 2 1 2\nitem 3 24 0 0 1\nitem 5 25 2 0 0 65535 1 3";
+    let line = "  | unsafe extern \"C++\" fn n25(a0: fn(Pin<&mut n24>, &mut n24))\n";
+    assert_eq!(declared(rows, "error[18]"), format!("{line}  | {}^^^^^^^^\n", " ".repeat(49)));
+    // the arguments of a function's type
+    let rows = "row 9\nrow 8 0 0\nrow 12 0 65535 3 1 0 1\nitem 1 24 0 0 1 2";
+    let line = "  | struct n24 { f0: fn(*const &str, &str, *const &str) }\n  |                     ^^^^^^^^^^^        ^^^^^^^^^^^\n";
+    assert_eq!(declared(rows, "error[26]"), line);
+    // the row of an impl, a receiver, a self type, bounds, a return
+    assert_eq!(declared("row 9\nitem 8 0 0 0", "error[55]"), "  | impl &str {}\n  |      ^^^^\n");
+    assert_eq!(
+        declared("item 5 24 0 0 2 25 1 65535 0", "error[43]"),
+        "  | extern \"C++\" fn n24(self: &mut n25)\n  |                     ^^^^^^^^^^^^^^\n"
+    );
+    assert_eq!(declared("item 6 24 0 0 1 25 65535 0", "error[46]"), "  | #[Self = \"n25\"] extern \"Rust\" fn n24()\n  |           ^^^\n");
+    assert_eq!(declared("item 4 24 0 0 2", "error[37]"), "  | extern \"Rust\" type n24: ..\n  |                         ^^\n");
+    let rows = "row 9\nrow 7 1 0\nitem 5 24 0 0 0 1 0";
+    assert_eq!(declared(rows, "error[56]"), "  | extern \"C++\" fn n24() -> &mut &str\n  |                          ^^^^^^^^^\n");
+}
+
+#[test]
+fn what_is_long() {
+    // a type that is written by its number, and one inside it
+    let rows = "row 0 24\nrow 2 0\nrow 12 2 65535 8 1 1 1 1 1 1 1 1\nitem 3 24 0 0 1\nitem 5 25 2 0 0 65535 1 2";
+    let whole = "fn(Vec<n24>, Vec<n24>, Vec<n24>, Vec<n24>, Vec<n24>, Vec<n24>, Vec<n24>, Vec<n24>) -> Result<()>";
+    let line = format!("  | unsafe extern \"C++\" fn n25(a0: #2)\n  | {}^^\n", " ".repeat(31));
+    assert_eq!(declared(rows, "error[25]"), line);
+    assert_eq!(declared(rows, "error[6]"), format!("{line}  = #2 is `{whole}`\n"));
+    let sheet = piped(&["make", "-"], rows.as_bytes()).stdout;
+    assert!(with_input(&["check", "-"], &sheet).1.contains(&format!(" --> row 2, `{whole}`, in argument 0 of item 1\n")));
+    let rows = "row 0 14\nrow 6 0\nrow 12 0 65535 5 1 1 1 1 1\nitem 1 24 0 0 2 2 2";
+    let line = "  | struct n24 { f0: #2, f1: #2 }\n  |              ^^^^^^  ^^^^^^\n";
+    let whole = format!("fn({})", ["CxxVector<CxxString>"; 5].join(", "));
+    assert_eq!(declared(rows, "error[31]"), format!("{line}  = #2 is `{whole}`\n"));
+    // a line of eighty columns is shown whole, of a wider one the fields that are meant
+    let rows = |fields: &str| format!("row 0 2\nrow 13\nrow 0 6\nrow 0 13\nitem 1 24 0 0 {fields}");
+    let line = "  | struct n24 { f0: usize, f1: usize, f2: f64, f3: u8, f4: u8, f5: u8, f6: () }\n";
+    assert_eq!(line.len(), 81);
+    assert_eq!(declared(&rows("7 2 2 3 0 0 0 1"), "error[32]"), format!("{line}  | {}^^^^^^\n", " ".repeat(68)));
+    let line = "  | struct n24 { ..., f6: () }\n  |                   ^^^^^^\n";
+    assert_eq!(declared(&rows("7 2 2 3 3 0 0 1"), "error[32]"), line);
+    let line = "  | struct n24 { f0: (), f1: (), ..., f7: (), ... }\n  |              ^^^^^^  ^^^^^^       ^^^^^^\n";
+    assert_eq!(declared(&rows("9 1 1 0 0 0 0 0 1 0"), "error[32]"), line);
+}
+
+#[test]
+fn every_record_is_told() {
+    // message 4 of a Box in a Vec comes twice
+    let rows = "row 0 24\nrow 1 0\nrow 2 1\nitem 3 24 0 0 1\nitem 5 25 2 0 0 65535 1 2";
+    let sheet = piped(&["make", "-"], rows.as_bytes()).stdout;
+    let (_, out, _) = with_input(&["check", "-"], &sheet);
+    assert!(out.starts_with("-: accepted, 3 diagnostics\n"), "{out}");
+    assert_eq!(out.matches("error[").count(), 3, "{out}");
 }
 
 #[test]
@@ -232,6 +300,12 @@ fn made_sheets() {
         assert_eq!((status, &out[..], err), (3, "", format!("tirvouez: -: {fault}\n")));
     }
     assert_eq!(with_input(&["make", "-"], b"# nothing\n").1, "\0\0\0\0");
+    // and what is shown is made again
+    for sample in ["blade", "cutter", "cycle", "faults", "mended", "worked"] {
+        let sheet = std::fs::read(repository().join(format!("samples/{sample}.sheet"))).unwrap();
+        let rows = piped(&["show", "--rows", "--names", "samples/cutter.names", "-"], &sheet).stdout;
+        assert_eq!(piped(&["make", "-"], &rows).stdout, sheet, "{sample}");
+    }
     assert_eq!(run(&["make", &path("cutter.sheet")]).0, 4);
     std::fs::remove_dir_all(made).unwrap();
 }
@@ -241,20 +315,29 @@ fn files_of_names() {
     let names = folder("names");
     let file = names.join("names").to_str().unwrap().to_owned();
     for (text, fault) in [
+        ("24 Point\n25 Point\n", "line 2: Point is what 24 is called"),
         ("24 Point\n24 Lay\n", "line 2: 24 has a name already"),
+        ("24 n25\n", "line 1: n25 is what 25 is called"),
+        ("24 u8\n", "line 1: u8 is what 2 is called"),
+        ("+24 Point\n", "line 1: `+24` is no name's number, which is 0 to 255"),
         ("\n# a note\n256 Far\n", "line 3: `256` is no name's number, which is 0 to 255"),
         ("24\n", "line 1: expected a number and a name, as `24 Point`"),
         ("24 Two words\n", "line 1: expected a number and a name, as `24 Point`"),
         ("2 byte\n", "line 1: 2 is u8, and can't be called byte"),
-        ("24 \u{1b}[31m\n", "line 1: the name of 24 has a control character"),
+        ("24 \u{1b}[31m\n", "line 1: the name of 24 has a character that is not seen"),
+        (&format!("24 {}\n", "x".repeat(129)), "line 1: the name of 24 is longer than 128 bytes"),
     ] {
         std::fs::write(&file, text).unwrap();
         let (status, out, err) = run(&["show", "--names", &file, "samples/worked.sheet"]);
         assert_eq!((status, &out[..], err), (3, "", format!("tirvouez: {file}: {fault}\n")));
     }
-    std::fs::write(&file, "2 u8\n24 Ärmel # sleeve\n").unwrap();
+    std::fs::write(&file, "\u{feff}2 u8\r\n24 Ärmel # sleeve\n\n25\tr#type").unwrap();
     let (_, out, _) = run(&["check", "--names", &file, "samples/worked.sheet"]);
-    assert!(out.contains("  | struct Ärmel { f0: n25 }\n  |                ^^^^^^^\n"), "{out}");
+    assert!(out.contains("  | struct Ärmel { f0: r#type }\n  |                ^^^^^^^^^^\n"), "{out}");
+    // two columns for each of these
+    std::fs::write(&file, "24 刃物\n25 n24\n").unwrap();
+    let (_, out, _) = run(&["check", "--names", &file, "samples/worked.sheet"]);
+    assert!(out.contains("  | struct 刃物 { f0: n24 }\n  |               ^^^^^^^\n"), "{out}");
     std::fs::remove_dir_all(names).unwrap();
 }
 
@@ -270,6 +353,8 @@ fn commands_that_are_not_understood() {
         &["check", "--names"],
         &["check", "--json=yes", "samples/worked.sheet"],
         &["make", "--output", "a", "--output", "b", "samples/worked.rows"],
+        &["make", "--check", "-"],
+        &["check", "--names", "-", "samples/worked.sheet"],
     ] {
         let (status, out, err) = run(arguments);
         assert_eq!((status, &out[..]), (4, ""), "{arguments:?}");
@@ -282,8 +367,29 @@ fn commands_that_are_not_understood() {
     {
         assert!(help.contains(line), "{line}");
     }
+    assert_eq!(run(&["show", "--rows", "samples/worked.sheet", "samples/cycle.sheet"]).0, 4);
+    assert_eq!(run(&["make", "--output", "samples/worked.rows", "samples/worked.rows"]).0, 4);
     // after -- nothing is an option
     assert_eq!(run(&["check", "--", "--json"]).0, 3);
+}
+
+#[test]
+fn names_that_are_no_text() {
+    let made = folder("bytes");
+    let path = |name: &[u8]| made.join(OsStr::from_bytes(name));
+    let option = |option: &str, path: &Path| OsString::from_vec([option.as_bytes(), path.as_os_str().as_bytes()].concat());
+    std::fs::write(path(b"n\xff.names"), "24 Panel\n").unwrap();
+    let run = command(&["show", "samples/worked.sheet"]).arg(option("--names=", &path(b"n\xff.names"))).output().unwrap();
+    assert!(String::from_utf8(run.stdout).unwrap().contains("struct Panel"));
+    let run = command(&["make", "samples/worked.rows"]).arg(option("--output=", &path(b"o\xff.sheet"))).status().unwrap();
+    assert!(run.success() && path(b"o\xff.sheet").exists());
+    // of a folder the files alone: not a folder in it, and no pipe, to which nobody may write
+    std::fs::create_dir(path(b"sub.sheet")).unwrap();
+    assert!(Command::new("mkfifo").arg(path(b"pipe.sheet")).status().unwrap().success());
+    let run = command(&["check", "--json"]).arg(&made).output().unwrap();
+    assert_eq!((run.status.code(), run.stderr.len()), (Some(1), 0));
+    assert_eq!(String::from_utf8(run.stdout).unwrap().lines().count(), 1);
+    std::fs::remove_dir_all(made).unwrap();
 }
 
 #[test]
@@ -294,6 +400,13 @@ fn nobody_reads() {
     drop(child.stdout.take());
     let (status, _, err) = ended(child.wait_with_output().unwrap());
     assert_eq!((status, &err[..]), (1, ""));
+    // an output that can't be written, an input that can't be read
+    let only_read = std::fs::File::open("/dev/null").unwrap();
+    let run = command(&["check", "samples/faults.sheet"]).stdout(only_read).output().unwrap();
+    assert_eq!((run.status.code(), &run.stderr[..]), (Some(4), &b"tirvouez: cannot write: Bad file descriptor (os error 9)\n"[..]));
+    let only_written = std::fs::OpenOptions::new().write(true).open("/dev/null").unwrap();
+    let run = command(&["check", "-"]).stdin(only_written).output().unwrap();
+    assert_eq!((run.status.code(), &run.stderr[..]), (Some(3), &b"tirvouez: -: cannot be read: Bad file descriptor (os error 9)\n"[..]));
     let full = std::fs::OpenOptions::new().write(true).open("/dev/full").unwrap();
     let run = command(&["check", "samples/faults.sheet"]).stdout(full).output().unwrap();
     assert_eq!((run.status.code(), &run.stderr[..]), (Some(4), &b"tirvouez: cannot write: No space left on device (os error 28)\n"[..]));

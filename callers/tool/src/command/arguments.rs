@@ -1,6 +1,7 @@
 //! The command line.
 
 use std::ffi::OsString;
+use std::os::unix::ffi::{OsStrExt, OsStringExt};
 use std::path::PathBuf;
 
 pub const HELP: &str = "\
@@ -37,6 +38,17 @@ pub enum Word {
     Show,
     Order,
     Make,
+}
+
+impl Word {
+    fn text(self) -> &'static str {
+        match self {
+            Word::Check => "check",
+            Word::Show => "show",
+            Word::Order => "order",
+            Word::Make => "make",
+        }
+    }
 }
 
 /// What a sheet's text is to be.
@@ -82,16 +94,15 @@ const OPTIONS: [(&str, &[Word]); 7] = [
 pub fn parse(arguments: impl IntoIterator<Item = OsString>) -> Result<Command, String> {
     let mut arguments = arguments.into_iter();
     let first = arguments.next().ok_or("a word is missing: check, show, order or make")?;
-    let word = match first.to_str() {
-        Some("check") => Word::Check,
-        Some("show") => Word::Show,
-        Some("order") => Word::Order,
-        Some("make") => Word::Make,
-        Some("help" | "--help" | "-h") => return Ok(Command::Help),
-        Some("--version" | "-V") => return Ok(Command::Version),
-        _ => return Err(format!("no word `{}`: the words are check, show, order and make", first.to_string_lossy())),
-    };
-    options(word, arguments)
+    let words = [Word::Check, Word::Show, Word::Order, Word::Make];
+    if let Some(word) = words.into_iter().find(|word| first == word.text()) {
+        return options(word, arguments);
+    }
+    match first.to_str() {
+        Some("help" | "--help" | "-h") => Ok(Command::Help),
+        Some("--version" | "-V") => Ok(Command::Version),
+        _ => Err(format!("`{}` is no word; first comes check, show, order or make", first.to_string_lossy())),
+    }
 }
 
 fn options(word: Word, mut arguments: impl Iterator<Item = OsString>) -> Result<Command, String> {
@@ -103,16 +114,24 @@ fn options(word: Word, mut arguments: impl Iterator<Item = OsString>) -> Result<
             made.files.push(argument.into());
             continue;
         }
-        if matches!(&text[..], "--help" | "-h") {
-            return Ok(Command::Help);
+        match &text[..] {
+            "--help" | "-h" => return Ok(Command::Help),
+            "--version" | "-V" => return Ok(Command::Version),
+            _ => {}
         }
         if text == "--" {
             ended = true;
             continue;
         }
-        let (option, value) = text.split_once('=').map_or((&text[..], None), |(option, value)| (option, Some(value.into())));
-        if !OPTIONS.iter().any(|(name, words)| *name == option && words.contains(&word)) {
-            return Err(format!("no option {option} of this word"));
+        // the value as its bytes are: a file's name need be no text
+        let (option, value) = match text.split_once('=') {
+            Some((option, _)) => (option, Some(OsString::from_vec(argument.as_bytes()[option.len() + 1..].to_vec()))),
+            None => (&text[..], None),
+        };
+        match OPTIONS.iter().find(|(name, _)| *name == option) {
+            None => return Err(format!("there is no option {option}")),
+            Some((_, words)) if !words.contains(&word) => return Err(format!("{option} is no option of {}", word.text())),
+            _ => {}
         }
         set(&mut made, option, value, &mut arguments)?;
     }
@@ -155,7 +174,9 @@ fn sensible(made: &Options) -> Result<(), String> {
     let standard = made.files.iter().filter(|file| is_standard(file)).count();
     let faults = [
         (made.files.is_empty(), "a file is missing; - is standard input"),
-        (standard > 1 || made.names.as_ref().is_some_and(is_standard), "standard input is one sheet"),
+        (standard > 1, "standard input is one sheet"),
+        (made.names.as_ref().is_some_and(is_standard), "names come from a file, not from standard input"),
+        (made.check && standard > 0, "--check needs a file beside which the sheet is"),
         (made.output.is_some() && (made.files.len() != 1 || made.check), "--output is for one file, and not with --check"),
     ];
     faults.into_iter().find(|(wrong, _)| *wrong).map_or(Ok(()), |(_, fault)| Err(fault.to_owned()))

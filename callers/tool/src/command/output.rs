@@ -1,8 +1,11 @@
 //! The two outputs, a line of progress, and the sum of what was found. A closed pipe ends the run without a word.
 
 use crate::command::run::{Said, Status};
+use crate::command::style;
 use crate::text::number::Count;
-use std::io::{self, BufWriter, ErrorKind, IsTerminal, StdoutLock, Write};
+use std::fs::File;
+use std::io::{self, BufWriter, ErrorKind, IsTerminal, Write};
+use std::os::fd::AsFd;
 use std::time::{Duration, Instant};
 
 /// Progress is shown as often as this.
@@ -10,7 +13,7 @@ const OFTEN: Duration = Duration::from_millis(100);
 const ROOM: usize = 1 << 16;
 
 pub struct Output {
-    out: BufWriter<StdoutLock<'static>>,
+    out: BufWriter<File>,
     /// Each sheet is shown at once.
     terminal: bool,
     files: usize,
@@ -24,19 +27,19 @@ pub struct Output {
 }
 
 impl Output {
-    pub fn new(files: usize) -> Self {
-        let out = io::stdout().lock();
+    pub fn new(files: usize) -> io::Result<Self> {
+        let out = standard()?;
         let terminal = out.is_terminal();
-        Self {
+        Ok(Self {
             out: BufWriter::with_capacity(ROOM, out),
             terminal,
             files,
             counts: [0; 5],
             worst: Status::Clean,
-            progress: (files > 1 && io::stderr().is_terminal()).then(Instant::now),
+            progress: (files > 1 && io::stderr().is_terminal() && !style::dumb()).then(Instant::now),
             drawn: false,
             failed: None,
-        }
+        })
     }
 
     /// Prints what is said of a sheet; false where nothing more can be printed.
@@ -85,7 +88,7 @@ impl Output {
 }
 
 /// The exit status after the output ended so.
-fn ended(failed: Option<io::Error>, found: Status) -> Status {
+pub fn ended(failed: Option<io::Error>, found: Status) -> Status {
     match failed {
         Some(error) if error.kind() != ErrorKind::BrokenPipe => {
             tell(&format!("tirvouez: cannot write: {error}\n"));
@@ -95,14 +98,14 @@ fn ended(failed: Option<io::Error>, found: Status) -> Status {
     }
 }
 
-/// Prints a text, and gives the exit status.
-pub fn print(text: &str) -> Status {
-    bytes(text.as_bytes())
+/// Standard output as a file; to std's writer one that can't be written is as good as any.
+fn standard() -> io::Result<File> {
+    Ok(File::from(io::stdout().as_fd().try_clone_to_owned()?))
 }
 
-pub fn bytes(bytes: &[u8]) -> Status {
-    let mut out = io::stdout().lock();
-    ended(out.write_all(bytes).and_then(|()| out.flush()).err(), Status::Clean)
+/// Prints a text or a sheet, and gives the exit status.
+pub fn print(bytes: &[u8]) -> Status {
+    ended(standard().and_then(|mut out| out.write_all(bytes)).err(), Status::Clean)
 }
 
 /// Writes on standard error; where that is closed nobody is there to be told.

@@ -5,6 +5,8 @@ use std::ops::ControlFlow;
 use std::sync::{Condvar, Mutex, MutexGuard, PoisonError};
 use std::thread;
 
+/// The stack of a thread: the library takes less than 256 KiB of it (docs/SPEED.md).
+const STACK: usize = 1 << 21;
 /// How far each thread may be ahead of the taking, so that outputs do not pile up.
 const AHEAD: usize = 8;
 
@@ -99,7 +101,7 @@ pub fn in_order<I: Sync, O: Send, W>(
     };
     thread::scope(|scope| {
         let wanted = if inputs.len() > 1 { threads.min(inputs.len()) } else { 0 };
-        let crew = (0..wanted).map_while(|_| thread::Builder::new().spawn_scoped(scope, run).ok()).count();
+        let crew = (0..wanted).map_while(|_| thread::Builder::new().stack_size(STACK).spawn_scoped(scope, run).ok()).count();
         let mut alone = (crew == 0).then(&worker);
         for input in inputs {
             let output = match &mut alone {

@@ -2,9 +2,10 @@
 
 use crate::command::arguments::{Form, Options, Word};
 use crate::command::files::{self, Input};
-use crate::command::output::{Output, tell};
+use crate::command::output::{self, Output, tell};
 use crate::command::parallel;
 use crate::command::style::Style;
+use crate::text::columns::seen;
 use crate::text::names::Names;
 use crate::words::{check, order, show};
 use std::io::IsTerminal;
@@ -48,15 +49,22 @@ pub fn run(options: &Options) -> Status {
     let names = match names(options) {
         Ok(names) => names,
         Err(fault) => {
-            tell(&format!("tirvouez: {}\n", files::printable(&fault)));
+            tell(&format!("tirvouez: {}\n", seen(&fault)));
             return Status::Unread;
         }
     };
     let coloured = matches!(options.form, Form::Words | Form::Brief) && std::io::stdout().is_terminal();
     let context = Context { names: &names, style: Style::of(coloured), form: options.form };
     let inputs = files::listed(&options.files);
+    if options.form == Form::Rows && inputs.len() != 1 {
+        tell("tirvouez: --rows is of one sheet, and there are more\n");
+        return Status::Trouble;
+    }
     let threads = std::thread::available_parallelism().map_or(1, |threads| threads.get());
-    let mut output = Output::new(inputs.len());
+    let mut output = match Output::new(inputs.len()) {
+        Ok(output) => output,
+        Err(error) => return output::ended(Some(error), Status::Clean),
+    };
     let worker = || Worker { checker: Checker::new(), bytes: Vec::new() };
     let say = |worker: &mut Worker, input: &Input| said(options.word, &context, input, worker);
     parallel::in_order(&inputs, threads, worker, say, |said| match output.sheet(&said) {
@@ -74,7 +82,7 @@ fn names(options: &Options) -> Result<Names, String> {
 
 fn said(word: Word, context: &Context, input: &Input, worker: &mut Worker) -> Said {
     let trouble = |why: String| {
-        let err = format!("tirvouez: {}: cannot be read: {}\n", files::printable(&input.name()), files::printable(&why));
+        let err = format!("tirvouez: {}: cannot be read: {}\n", seen(&input.name()), seen(&why));
         Said { out: String::new(), err, status: Status::Unread }
     };
     if let Err(why) = input.read(&mut worker.bytes) {
@@ -85,7 +93,7 @@ fn said(word: Word, context: &Context, input: &Input, worker: &mut Worker) -> Sa
         Err(unreadable) => return trouble(unreadable.to_string()),
     };
     // data has the name as it is, JSON's escapes do the rest
-    let file = if context.form == Form::Json { input.name() } else { files::printable(&input.name()) };
+    let file = if context.form == Form::Json { input.name() } else { seen(&input.name()) };
     match word {
         Word::Show => show::show(context, &file, &worker.bytes, answer),
         Word::Order => order::order(context, &file, &worker.bytes, answer),

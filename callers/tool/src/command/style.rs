@@ -13,10 +13,14 @@ pub struct Style {
 impl Style {
     /// For a terminal, unless NO_COLOR is set (no-color.org) or the terminal is dumb.
     pub fn of(terminal: bool) -> Self {
-        let set = |name: &str| std::env::var_os(name).filter(|value| !value.is_empty());
-        if !terminal || set("NO_COLOR").is_some() || set("TERM").is_some_and(|term| term == "dumb") {
+        if !terminal || dumb() || std::env::var_os("NO_COLOR").is_some_and(|value| !value.is_empty()) {
             return Self::default();
         }
         Self { bold: "\x1b[1m", error: "\x1b[1;31m", good: "\x1b[32m", frame: "\x1b[1;34m", end: "\x1b[0m" }
     }
+}
+
+/// Whether the terminal knows no codes.
+pub fn dumb() -> bool {
+    std::env::var_os("TERM").is_some_and(|term| term == "dumb")
 }

@@ -95,6 +95,7 @@ pub mod item {
     pub const CXX_FUNCTION: u16 = 5;
     pub const RUST_FUNCTION: u16 = 6;
     pub const ALIAS: u16 = 7;
+    pub const IMPL: u16 = 8;
 }
 
 pub const DERIVED: [&str; 15] = [

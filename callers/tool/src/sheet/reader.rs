@@ -57,7 +57,7 @@ impl<'a> Reader<'a> {
         for number in 0..rows {
             self.bound = number;
             let start = self.begin("row", number, number)?;
-            let body = self.body(ROWS)?;
+            let body = self.body("row", ROWS)?;
             if let Some(before) = seen.insert(body.pairs.0, number) {
                 return self.refuse(8, start, "", None, format_args!("a type that is in no row before; row {before} is the same"));
             }
@@ -66,7 +66,7 @@ impl<'a> Reader<'a> {
         self.bound = rows;
         for number in 0..items {
             self.begin("item", number, rows + number)?;
-            let body = self.body(ITEMS)?;
+            let body = self.body("item", ITEMS)?;
             self.sheet.items.push(body);
         }
         self.body = None;
@@ -82,7 +82,7 @@ impl<'a> Reader<'a> {
     fn contents(&mut self) -> Result<(usize, usize)> {
         let length = self.bytes.len();
         if length > MOST_BYTES {
-            return self.refuse(2, 0, "the sheet", None, format_args!("at most {MOST_BYTES} bytes"));
+            return self.refuse(2, 0, "the sheet", None, format_args!("at most {MOST_BYTES} bytes; it has more"));
         }
         if length < 4 {
             return self.refuse(3, 0, "the sheet", None, format_args!("at least 4 bytes, T and A; it has {length}"));
@@ -126,10 +126,12 @@ impl<'a> Reader<'a> {
         Ok(start)
     }
 
-    fn body(&mut self, kinds: &Kinds) -> Result<Body<'a>> {
+    fn body(&mut self, word: &str, kinds: &Kinds) -> Result<Body<'a>> {
         let start = self.at;
         let most = kinds.len() as u16 - 1;
-        let mut body = Body { kind: self.up_to("kind", most, format_args!("a kind, 0 to {most}"))?, ..Body::default() };
+        let (first, last) = (kinds[0].0, kinds[usize::from(most)].0);
+        let expected = format_args!("a kind of {word}, 0 ({first}) to {most} ({last})");
+        let mut body = Body { kind: self.up_to("kind", most, expected)?, ..Body::default() };
         let (name, parts) = kinds[usize::from(body.kind)];
         self.kind = name;
         for &part in parts {
@@ -142,12 +144,19 @@ impl<'a> Reader<'a> {
     fn part(&mut self, part: Part, body: &mut Body<'a>) -> Result<()> {
         match part {
             Part::Name => body.name = self.name("name")?,
-            Part::Flags(flags) => body.flags = self.flags(flags)?,
+            Part::Flags(flags) => body.flags = self.flags("flags", flags)?,
             Part::Row(what) => body.rows = self.single(what)?,
             Part::Return => body.ret = self.ret()?,
             Part::Rows(what, most) => body.rows = self.rows(what, most)?,
-            Part::Lifetimes => body.lifetimes = self.numbers("lifetime", MOST_LIFETIMES, LAST_LIFETIME)?,
-            Part::Derives => body.derives = self.numbers("derive", MOST_DERIVES, DERIVED.len() as u16 - 1)?,
+            Part::Lifetimes => {
+                body.lifetimes =
+                    self.numbers("lifetime", MOST_LIFETIMES, LAST_LIFETIME, format_args!("a lifetime, 0 ('static) to {LAST_LIFETIME}"))?
+            }
+            Part::Derives => {
+                let (last, name) = (DERIVED.len() as u16 - 1, DERIVED[DERIVED.len() - 1]);
+                body.derives =
+                    self.numbers("derive", MOST_DERIVES, last, format_args!("a derive, 0 ({}) to {last} ({name})", DERIVED[0]))?
+            }
             Part::ArrayLength => body.array_length = self.pair("length", "an array's length")?,
             Part::Form => body.form = self.form()?,
             Part::Repr => body.rows = self.repr()?,
@@ -168,7 +177,7 @@ impl<'a> Reader<'a> {
             1 => Form::Associated(self.name("self type")?),
             _ => {
                 let name = self.name("receiver")?;
-                Form::Method { name, flags: self.flags(REFERENCE)? }
+                Form::Method { name, flags: self.flags("flags of the receiver", REFERENCE)? }
             }
         })
     }
@@ -224,8 +233,8 @@ impl<'a> Reader<'a> {
         self.up_to(what, LAST_NAME, format_args!("a name, 0 to {LAST_NAME}"))
     }
 
-    fn flags(&mut self, flags: &'static [&str]) -> Result<u16> {
-        self.up_to("flags", (1 << flags.len()) - 1, Sum(flags))
+    fn flags(&mut self, what: &str, flags: &'static [&str]) -> Result<u16> {
+        self.up_to(what, (1 << flags.len()) - 1, Sum(flags))
     }
 
     fn count(&mut self, what: &str, most: u16) -> Result<usize> {
@@ -266,11 +275,11 @@ impl<'a> Reader<'a> {
         Ok(Pairs(&self.bytes[start..self.at]))
     }
 
-    fn numbers(&mut self, what: &str, most: u16, largest: u16) -> Result<Pairs<'a>> {
+    fn numbers(&mut self, what: &str, most: u16, largest: u16, expected: impl Display) -> Result<Pairs<'a>> {
         let count = self.count(what, most)?;
         let start = self.at;
         for number in 0..count {
-            self.up_to(format_args!("{what} {number}"), largest, format_args!("a number, 0 to {largest}"))?;
+            self.up_to(format_args!("{what} {number}"), largest, &expected)?;
         }
         Ok(Pairs(&self.bytes[start..self.at]))
     }
@@ -319,13 +328,16 @@ struct Row {
 
 impl Display for Row {
     fn fmt(&self, f: &mut Formatter) -> fmt::Result {
-        match (self.body, self.bound) {
-            (Some(Which { word: "row", number: 0 }), _) => write!(f, "a row before row 0, and there is none")?,
-            (Some(Which { word: "row", number }), _) => write!(f, "a row before row {number}")?,
-            (_, 0) => write!(f, "a row, and the sheet has none")?,
-            (_, 1) => write!(f, "row 0, the only one")?,
-            (_, bound) => write!(f, "a row, 0 to {}", bound - 1)?,
-        }
-        f.write_str(if self.none { ", or 65535 for none" } else { "" })
+        let in_row = matches!(self.body, Some(Which { word: "row", .. }));
+        match (in_row, self.bound, self.none) {
+            (true, 0, false) => write!(f, "a row before row 0, and there is none"),
+            (true, 0, true) => write!(f, "{NONE} for none; there is no row before row 0"),
+            (true, bound, _) => write!(f, "a row before row {bound}"),
+            (false, 0, false) => write!(f, "a row, and the sheet has none"),
+            (false, 0, true) => write!(f, "{NONE} for none; the sheet has no row"),
+            (false, 1, _) => write!(f, "row 0, the only one"),
+            (false, bound, _) => write!(f, "a row, 0 to {}", bound - 1),
+        }?;
+        if self.none && self.bound > 0 { write!(f, ", or {NONE} for none") } else { Ok(()) }
     }
 }

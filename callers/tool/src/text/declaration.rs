@@ -1,6 +1,7 @@
 //! Items as a person knows them from a bridge: `struct n24 { f0: n25 }`.
 
 use crate::sheet::{Body, DERIVED, Form, Pairs, item};
+use crate::text::columns::columns;
 use crate::text::names::Names;
 use crate::text::number::{self, Count};
 use crate::text::types::{self, Types};
@@ -20,6 +21,9 @@ pub enum Part {
     Return,
     /// The row of an impl, or an enum's repr.
     Row,
+    /// Of a method, or the self type of an associated function.
+    Receiver,
+    Bounds,
 }
 
 /// What stands before the fields or arguments and after them, and where other parts stand in it.
@@ -51,9 +55,18 @@ impl<'a> Declaration<'a> {
             }
             _ => made.implementation(body, types),
         }
-        let others = made.head.len() + made.tail.len();
-        let columns = |sum: usize, row| Some(sum + types.length(row) + LISTED).filter(|sum| *sum <= WIDTH);
-        made.wide = made.rows.iter().try_fold(others, columns).is_none();
+        let others = columns(&made.head) + columns(&made.tail);
+        let listed = |sum: usize, (number, row)| {
+            let before = if number == 0 {
+                "f0: ".len()
+            } else if number < 10 {
+                ", f1: ".len()
+            } else {
+                ", f10: ".len()
+            };
+            Some(sum + before + types.columns(row)).filter(|sum| *sum <= WIDTH)
+        };
+        made.wide = made.rows.iter().enumerate().try_fold(others, listed).is_none();
         made
     }
 
@@ -113,12 +126,17 @@ impl<'a> Declaration<'a> {
     fn extern_type(&mut self, body: &Body, names: &Names) {
         self.head += if body.has(1) { "unsafe " } else { "" };
         self.named(if body.kind == item::CXX_TYPE { "extern \"C++\" type " } else { "extern \"Rust\" type " }, body, names);
-        self.head += if body.has(2) { ": .." } else { "" };
+        if body.has(2) {
+            self.head += ": ";
+            self.part(Part::Bounds, |text| *text += "..");
+        }
     }
 
     fn function(&mut self, body: &Body<'a>, types: &Types, names: &Names) {
         if let Form::Associated(self_type) = body.form {
-            self.head += &format!("#[Self = \"{}\"] ", names.of(self_type));
+            self.head += "#[Self = \"";
+            self.part(Part::Receiver, |text| *text += names.of(self_type));
+            self.head += "\"] ";
         }
         self.head += if body.has(2) { "unsafe extern " } else { "extern " };
         self.head += match (body.kind == item::CXX_FUNCTION, body.has(4)) {
@@ -130,8 +148,8 @@ impl<'a> Declaration<'a> {
         self.head.push('(');
         if let Form::Method { name, flags } = body.form {
             let (before, after) = types::reference(flags & 1 != 0, flags & 2 != 0);
-            let between = if body.rows.is_empty() { "" } else { ", " };
-            self.head += &format!("self: {before}{}{after}{between}", names.of(name));
+            self.part(Part::Receiver, |text| *text += &format!("self: {before}{}{after}", names.of(name)));
+            self.head += if body.rows.is_empty() { "" } else { ", " };
         }
         (self.letter, self.rows) = ('a', body.rows);
         self.tail.push(')');
@@ -171,41 +189,66 @@ impl<'a> Declaration<'a> {
     /// The declaration; of one that is wider than a line, what has room after the head. `found` gets the places of the wanted parts.
     pub fn push_parts(&self, out: &mut String, types: &Types, wanted: &[Part], found: &mut Vec<Range<usize>>) {
         let head = out.len();
-        self.push_near(out, types, std::iter::empty(), found);
-        let tail = out.len() - self.tail.len();
+        out.push_str(&self.head);
+        self.push_numbers(out, types, head, 0..self.rows.len(), &mut Vec::new());
+        let tail = out.len();
+        out.push_str(&self.tail);
         let in_tail = self.in_tail.iter().map(|span| (tail, Part::Return, span));
         let parts = self.in_head.iter().map(|(part, span)| (head, *part, span)).chain(in_tail);
         found.extend(parts.filter(|(_, part, _)| wanted.contains(part)).map(|(start, _, span)| start + span.start..start + span.end));
     }
 
-    /// The declaration; of one that is wider than a line, what has room after the first of the wanted fields or arguments, whose numbers rise.
-    /// `found` gets the places of those that are shown.
+    /// The declaration; of one that is wider than a line, only the wanted fields or arguments, whose numbers rise, as many as have room. `found`
+    /// gets the places of those that are shown.
     pub fn push_near(&self, out: &mut String, types: &Types, wanted: impl Iterator<Item = usize>, found: &mut Vec<Range<usize>>) {
-        let mut wanted = wanted.peekable();
-        let begin = out.len();
+        let head = out.len();
         out.push_str(&self.head);
-        let from = wanted.peek().copied().filter(|_| self.wide).unwrap_or(0);
-        out.push_str(if from > 0 { "..., " } else { "" });
-        for number in from..self.rows.len() {
-            let before = out.len();
-            out.push_str(if number > from { ", " } else { "" });
-            let start = out.len();
-            self.push_listed(out, types, number);
-            if self.wide && number > from && out.len() - begin + self.tail.len() > WIDTH {
-                out.truncate(before);
-                out.push_str(", ...");
-                break;
-            }
-            if wanted.next_if_eq(&number).is_some() {
-                found.push(start..out.len());
+        if self.wide {
+            self.push_numbers(out, types, head, wanted, found);
+        } else {
+            let mut wanted = wanted.peekable();
+            for number in 0..self.rows.len() {
+                out.push_str(if number > 0 { ", " } else { "" });
+                let start = out.len();
+                self.push_listed(out, types, number);
+                found.extend(wanted.next_if_eq(&number).map(|_| start..out.len()));
             }
         }
         out.push_str(&self.tail);
     }
-}
 
-/// What a field or an argument has besides its type: `f10: ` and `, `.
-const LISTED: usize = 7;
+    /// The first of these fields or arguments, and as many more as a line has room for; where others are left out, dots.
+    fn push_numbers(
+        &self,
+        out: &mut String,
+        types: &Types,
+        head: usize,
+        numbers: impl Iterator<Item = usize>,
+        found: &mut Vec<Range<usize>>,
+    ) {
+        let mut next = 0;
+        for number in numbers {
+            let before = out.len();
+            out.push_str(match (next, number) {
+                (0, 0) => "",
+                (0, _) => "..., ",
+                (next, number) if next == number => ", ",
+                _ => ", ..., ",
+            });
+            let start = out.len();
+            self.push_listed(out, types, number);
+            if self.wide && next > 0 && columns(&out[head..]) + columns(&self.tail) > WIDTH {
+                out.truncate(before);
+                break;
+            }
+            found.push(start..out.len());
+            next = number + 1;
+        }
+        if next < self.rows.len() {
+            out.push_str(if next > 0 { ", ..." } else { "..." });
+        }
+    }
+}
 
 pub fn push_lifetime(out: &mut String, lifetime: u16) {
     match lifetime {

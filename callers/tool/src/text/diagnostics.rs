@@ -2,6 +2,7 @@
 //! row or item is said once.
 
 use crate::command::style::Style;
+use crate::text::columns::columns;
 use crate::text::declaration::Part;
 use crate::text::messages;
 use crate::text::number;
@@ -23,6 +24,7 @@ struct Frame {
     declaration: String,
     marks: String,
     end: String,
+    note: String,
 }
 
 /// Writes diagnostics; has buffers that serve them all.
@@ -42,6 +44,7 @@ impl<'v, 'a> Diagnostics<'v, 'a> {
             declaration: format!("\n  {frame}|{end} "),
             marks: format!("\n  {frame}|{end} {error}"),
             end: format!("{end}\n"),
+            note: format!("  {frame}={end} #"),
         };
         Self { view, frame, marked: Vec::new() }
     }
@@ -49,7 +52,8 @@ impl<'v, 'a> Diagnostics<'v, 'a> {
     pub fn push(&mut self, out: &mut String, records: &[Record]) {
         // by what is said; the lists serve every run
         let (mut said, mut groups) = (Vec::new(), Vec::<Vec<Record>>::new());
-        for run in records.chunk_by(|a, b| (a.letter, a.first) == (b.letter, b.first)) {
+        let parted = |r: &Record| Letter::of(r.letter).is_some_and(Letter::has_second);
+        for run in records.chunk_by(|a, b| parted(a) && (a.letter, a.first) == (b.letter, b.first)) {
             said.clear();
             for record in run {
                 let says = says(record, self.view);
@@ -94,18 +98,64 @@ impl<'v, 'a> Diagnostics<'v, 'a> {
                 let numbers = records.iter().map(|record| usize::from(record.second));
                 declaration.push_near(out, types, numbers, &mut self.marked);
             }
+            _ if of_row => declaration.push_parts(out, types, &[used.part], &mut self.marked),
             _ => {
                 let parts: Vec<Part> = records.iter().filter_map(|record| self.view.place(record)).map(|used| used.part).collect();
                 declaration.push_parts(out, types, &parts, &mut self.marked);
             }
         }
-        if let (true, [part]) = (of_row, &mut self.marked[..]) {
-            *part = narrowed(part.clone(), types.text(records[0].first), out);
-        }
+        let inside = if of_row { self.mark_row(used, records) } else { None };
+        let shown = self.marked.len();
         let line = out.len();
         out.push_str(&self.frame.marks);
         self.push_marks(out, start, line);
         out.push_str(&self.frame.end);
+        if let Some(row) = inside {
+            self.push_long(out, row);
+        }
+        if !of_row {
+            self.push_longs(out, &records[..shown.min(records.len())]);
+        }
+    }
+
+    /// Marks the row within the part that uses it, or its arguments that are meant. Gives the row in whose number it is hidden, if it is.
+    fn mark_row(&mut self, used: Use, records: &[Record]) -> Option<u16> {
+        let types = &self.view.types;
+        let row = records[0].first;
+        let outer = self.view.used_row(used)?;
+        let (shown, span) = types.find(outer, row)?;
+        let [part] = &self.marked[..] else { return None };
+        // a part ends with its type
+        let whole = types.find(outer, outer)?.1.len();
+        let start = part.end - whole + span.start;
+        self.marked.clear();
+        let argument = |record: &Record| types.parts(row).get(usize::from(record.second)).map(|(_, span)| span);
+        if records[0].letter == Letter::RowArgument as u8 && shown == row && !types.is_long(row) {
+            self.marked.extend(records.iter().filter_map(argument).map(|span| start + span.start..start + span.end));
+        } else {
+            self.marked.push(start..start + span.len());
+        }
+        Some(shown).filter(|shown| *shown != row)
+    }
+
+    /// What the types of fields, arguments or a return are that are written by their numbers.
+    fn push_longs(&self, out: &mut String, records: &[Record]) {
+        let mut told = Vec::new();
+        for row in records.iter().filter_map(|record| self.view.place_row(record)).filter(|row| self.view.types.is_long(*row)) {
+            if !told.contains(&row) {
+                told.push(row);
+                self.push_long(out, row);
+            }
+        }
+    }
+
+    /// What a row is that is written by its number.
+    fn push_long(&self, out: &mut String, row: u16) {
+        out.push_str(&self.frame.note);
+        number::push(out, usize::from(row));
+        out.push_str(" is `");
+        out.push_str(self.view.types.text(row));
+        out.push_str("`\n");
     }
 
     /// Marks under the parts of the line that stands from `start` to `line`.
@@ -114,7 +164,7 @@ impl<'v, 'a> Diagnostics<'v, 'a> {
         let mut at = start;
         for mark in &self.marked {
             for (part, signs) in [(at..mark.start, BLANKS), (mark.clone(), MARKS)] {
-                let mut columns = if ascii { part.len() } else { out[part].chars().count() };
+                let mut columns = if ascii { part.len() } else { columns(&out[part]) };
                 while columns > 0 {
                     let some = columns.min(signs.len());
                     out.push_str(&signs[..some]);
@@ -132,17 +182,4 @@ fn says(record: &Record, view: &View) -> u64 {
     let derive = || view.sheet.item(record.first)?.derives.get(usize::from(record.second));
     let derive = if record.letter == Letter::Derive as u8 { derive() } else { None };
     u64::from(record.message) << 32 | u64::from(record.detail) << 16 | u64::from(derive.unwrap_or_default())
-}
-
-/// The place of a row's text within the part that uses it, where it stands there.
-fn narrowed(part: Range<usize>, row: &str, text: &str) -> Range<usize> {
-    if text[part.clone()].strip_suffix(row).is_some_and(|before| before.ends_with(": ")) {
-        return part.end - row.len()..part.end;
-    }
-    let word = |c: char| c.is_alphanumeric() || c == '_';
-    let whole = |span: &Range<usize>| {
-        !(row.starts_with(word) && text[..span.start].ends_with(word) || row.ends_with(word) && text[span.end..].starts_with(word))
-    };
-    let found = text[part.clone()].match_indices(row).map(|(at, _)| part.start + at..part.start + at + row.len());
-    found.filter(|span| !span.is_empty()).find(whole).unwrap_or(part)
 }

@@ -1,3 +1,4 @@
+pub mod columns;
 pub mod data;
 pub mod declaration;
 pub mod diagnostics;

@@ -17,6 +17,11 @@ pub fn push(out: &mut String, number: usize) {
     out.push_str(&TWO[last..last + 2]);
 }
 
+/// The number that a word of digits is.
+pub fn digits(word: &str) -> Option<usize> {
+    word.bytes().all(|byte| byte.is_ascii_digit()).then(|| word.parse().ok())?
+}
+
 /// `1 row`, `2 rows`.
 pub struct Count(pub usize, pub &'static str);
 

@@ -37,7 +37,7 @@ fn push_row(out: &mut String, row: u16, view: &View) {
     out.push_str("row ");
     number::push(out, usize::from(row));
     out.push_str(", `");
-    view.types.push(out, row);
+    out.push_str(view.types.text(row));
     out.push('`');
     if let Some(used) = view.first_use(row) {
         out.push_str(", in ");

@@ -35,10 +35,11 @@ fn push_bytes(out: &mut String, bytes: &[u8], window: Range<usize>, position: us
     let cells: Vec<(usize, &[u8])> = window.clone().step_by(2).zip(bytes[window.clone()].chunks(2)).collect();
     for &(at, cell) in &cells {
         let _ = write!(places, "{at:>7}");
-        let _ = write!(hex, "{:>7}", cell.iter().map(|byte| format!("{byte:02x}")).collect::<Vec<_>>().join(" "));
+        let shown = cell.iter().map(|byte| format!("{byte:02x}")).collect::<Vec<_>>().join(" ");
+        let _ = write!(hex, "  {shown:<5}");
         let pair = if let [low, high] = cell { u16::from_le_bytes([*low, *high]).to_string() } else { String::new() };
         let _ = write!(pairs, "{pair:>7}");
-        marks += if at == position & !1 { "  ^^^^^" } else { "       " };
+        marks += if at == position & !1 && position < bytes.len() { "  ^^^^^" } else { "       " };
     }
     if position >= bytes.len() {
         places += &format!("{position:>7}");

@@ -1,6 +1,6 @@
 //! A sheet in the words of a person: texts of rows and declarations, and where rows are used. What a sheet does not need is not made.
 
-use crate::sheet::Sheet;
+use crate::sheet::{Sheet, item};
 use crate::text::declaration::{Declaration, Part};
 use crate::text::names::Names;
 use crate::text::types::Types;
@@ -58,12 +58,33 @@ impl<'a> View<'a> {
         let Record { first: item, second, .. } = *record;
         let part = match Letter::of(record.letter)? {
             Letter::Row | Letter::RowArgument => return self.first_use(record.first),
-            Letter::Item => Part::Name,
+            Letter::Item => self.item_part(record),
             Letter::Field | Letter::Argument => Part::Listed(second),
             Letter::Return => Part::Return,
             Letter::Derive => Part::Derive(second),
             Letter::Lifetime => Part::Lifetime(second),
         };
         Some(Use { item, part })
+    }
+
+    /// The part of an item that a message about the item is about.
+    fn item_part(&self, record: &Record) -> Part {
+        match (record.message, self.sheet.item(record.first).map(|body| body.kind)) {
+            (37, _) => Part::Bounds,
+            (41..=46, _) => Part::Receiver,
+            (56, _) => Part::Return,
+            (_, Some(item::IMPL)) => Part::Row,
+            _ => Part::Name,
+        }
+    }
+
+    /// The row of a part.
+    pub fn used_row(&self, used: Use) -> Option<u16> {
+        let body = self.sheet.item(used.item)?;
+        match used.part {
+            Part::Listed(number) => body.rows.get(usize::from(number)),
+            Part::Return => body.ret,
+            _ => body.row(),
+        }
     }
 }

@@ -7,6 +7,10 @@ use crate::command::files;
 use crate::command::output::{self, tell};
 use crate::command::run::Status;
 use crate::sheet::MOST_BYTES;
+use crate::text::columns::seen;
+use crate::text::number::digits;
+use std::ffi::OsString;
+use std::os::unix::ffi::OsStringExt;
 use std::path::{Path, PathBuf};
 
 pub fn run(options: &Options) -> Status {
@@ -16,7 +20,7 @@ pub fn run(options: &Options) -> Status {
 /// Makes, or compares, the sheet of one file.
 fn one(options: &Options, file: &Path) -> Status {
     let fault = |path: &Path, what: &str, status: Status| {
-        tell(&format!("tirvouez: {}\n", files::printable(&format!("{}: {what}", path.display()))));
+        tell(&format!("tirvouez: {}\n", seen(&format!("{}: {what}", path.display()))));
         status
     };
     let Some(target) = options.output.clone().or_else(|| target(file)) else {
@@ -30,15 +34,19 @@ fn one(options: &Options, file: &Path) -> Status {
         Ok(made) => made,
         Err(what) => return fault(file, &what, Status::Unread),
     };
+    if target == file && target.as_os_str() != files::STANDARD {
+        return fault(file, "the sheet would be written over it", Status::Trouble);
+    }
     if options.check {
-        return match std::fs::read(&target) {
-            Ok(bytes) if bytes == made => Status::Clean,
-            Ok(_) => fault(&target, &format!("it differs from what {} makes", file.display()), Status::Diagnostics),
+        let mut bytes = Vec::new();
+        return match files::limited(&target, MOST_BYTES, &mut bytes) {
+            Ok(()) if bytes == made => Status::Clean,
+            Ok(()) => fault(&target, &format!("it differs from what {} makes", file.display()), Status::Diagnostics),
             Err(error) => fault(&target, &format!("cannot be read: {error}"), Status::Unread),
         };
     }
-    if target.as_os_str() == "-" {
-        return output::bytes(&made);
+    if target.as_os_str() == files::STANDARD {
+        return output::print(&made);
     }
     match std::fs::write(&target, &made) {
         Ok(()) => Status::Clean,
@@ -48,16 +56,18 @@ fn one(options: &Options, file: &Path) -> Status {
 
 /// Where a file's sheet goes: beside it; of standard input to standard output.
 fn target(file: &Path) -> Option<PathBuf> {
-    if file.as_os_str() == "-" {
+    if file.as_os_str() == files::STANDARD {
         return Some(file.to_owned());
     }
-    (file.extension()? == "rows").then(|| file.with_extension("sheet"))
+    let mut name = file.as_os_str().as_encoded_bytes().strip_suffix(b".rows")?.to_vec();
+    name.extend(b".sheet");
+    Some(PathBuf::from(OsString::from_vec(name)))
 }
 
 /// The sheet of a text.
 pub fn sheet(text: &str) -> Result<Vec<u8>, String> {
     let (mut rows, mut items) = (Vec::new(), Vec::new());
-    for (number, line) in text.lines().enumerate() {
+    for (number, line) in text.strip_prefix('\u{feff}').unwrap_or(text).lines().enumerate() {
         let mut words = line.split('#').next().unwrap_or_default().split_whitespace();
         let fault = |what: String| format!("line {}: {what}", number + 1);
         let bodies = match words.next() {
@@ -72,7 +82,8 @@ pub fn sheet(text: &str) -> Result<Vec<u8>, String> {
 }
 
 fn pair(word: &str) -> Result<u16, String> {
-    word.parse().map_err(|_| format!("`{}` is no pair, which is 0 to 65535", word.escape_debug()))
+    let pair = digits(word).and_then(|pair| u16::try_from(pair).ok());
+    pair.ok_or_else(|| format!("`{}` is no pair, which is 0 to 65535", word.escape_debug()))
 }
 
 fn assemble(rows: &[Vec<u16>], items: &[Vec<u16>]) -> Result<Vec<u8>, String> {

@@ -45,6 +45,7 @@ pub fn order(context: &Context, file: &str, sheet: &[u8], answer: Answer) -> Sai
             _ => {
                 push_verdict(&mut out, file, answer, &context.style);
                 refusal::push(&mut out, verdict, fault.as_ref(), sheet, &context.style);
+                out.push('\n');
             }
         }
         return Said { out, err, status: Status::Refused };
@@ -53,7 +54,10 @@ pub fn order(context: &Context, file: &str, sheet: &[u8], answer: Answer) -> Sai
     match context.form {
         Form::Json => push_json(&mut out, &structs),
         Form::Dot => push_dot(&mut out, file, &structs, context.names),
-        _ => push_text(&mut out, context, file, &structs),
+        _ => {
+            push_text(&mut out, context, file, &structs);
+            out.push('\n');
+        }
     }
     Said { out, err, status: Status::Clean }
 }

@@ -35,6 +35,7 @@ pub fn show(context: &Context, file: &str, sheet: &[u8], answer: Answer) -> Said
             if let Err(verdict) = verdict {
                 refusal::push(&mut out, verdict, fault.as_ref(), sheet, &context.style);
             }
+            out.push('\n');
         }
     }
     Said { out, err, status: if verdict.is_err() { Status::Refused } else { Status::Clean } }
