@@ -381,6 +381,10 @@ fn names_that_are_no_text() {
     std::fs::write(path(b"n\xff.names"), "24 Panel\n").unwrap();
     let run = command(&["show", "samples/worked.sheet"]).arg(option("--names=", &path(b"n\xff.names"))).output().unwrap();
     assert!(String::from_utf8(run.stdout).unwrap().contains("struct Panel"));
+    for argument in [&b"-\xff="[..], b"--\xff", b"\xff", b"-=", b"=", b""] {
+        let run = command(&["check", "samples/cutter.sheet"]).arg(OsStr::from_bytes(argument)).output().unwrap();
+        assert!(matches!(run.status.code(), Some(3 | 4)), "{argument:?}: {}", run.status);
+    }
     let run = command(&["make", "samples/worked.rows"]).arg(option("--output=", &path(b"o\xff.sheet"))).status().unwrap();
     assert!(run.success() && path(b"o\xff.sheet").exists());
     // of a folder the files alone: not a folder in it, and no pipe, to which nobody may write

@@ -1,7 +1,7 @@
 //! The command line.
 
-use std::ffi::OsString;
-use std::os::unix::ffi::{OsStrExt, OsStringExt};
+use std::ffi::{OsStr, OsString};
+use std::os::unix::ffi::OsStrExt;
 use std::path::PathBuf;
 
 pub const HELP: &str = "\
@@ -109,37 +109,38 @@ fn options(word: Word, mut arguments: impl Iterator<Item = OsString>) -> Result<
     let mut made = Options { word, ..Options::default() };
     let mut ended = false;
     while let Some(argument) = arguments.next() {
-        let text = argument.to_string_lossy().into_owned();
-        if ended || !text.starts_with('-') || text == "-" {
+        if ended || !argument.as_bytes().starts_with(b"-") || argument == "-" {
             made.files.push(argument.into());
             continue;
         }
-        match &text[..] {
-            "--help" | "-h" => return Ok(Command::Help),
-            "--version" | "-V" => return Ok(Command::Version),
-            _ => {}
-        }
-        if text == "--" {
-            ended = true;
-            continue;
-        }
-        // the value as its bytes are: a file's name need be no text
-        let (option, value) = match text.split_once('=') {
-            Some((option, _)) => (option, Some(OsString::from_vec(argument.as_bytes()[option.len() + 1..].to_vec()))),
-            None => (&text[..], None),
+        // a value as its bytes are: a file's name need be no text
+        let (option, value) = match parted(argument.as_bytes()) {
+            Some((option, value)) => (String::from_utf8_lossy(option), Some(OsStr::from_bytes(value).to_owned())),
+            None => (argument.to_string_lossy(), None),
         };
-        match OPTIONS.iter().find(|(name, _)| *name == option) {
-            None => return Err(format!("there is no option {option}")),
-            Some((_, words)) if !words.contains(&word) => return Err(format!("{option} is no option of {}", word.text())),
-            _ => {}
+        match (&option[..], value) {
+            ("--", None) => ended = true,
+            ("--help" | "-h", None) => return Ok(Command::Help),
+            ("--version" | "-V", None) => return Ok(Command::Version),
+            (option, value) => set(&mut made, option, value, &mut arguments)?,
         }
-        set(&mut made, option, value, &mut arguments)?;
     }
     sensible(&made)?;
     Ok(Command::Run(made))
 }
 
+/// What stands before the first = and behind it.
+fn parted(argument: &[u8]) -> Option<(&[u8], &[u8])> {
+    let at = argument.iter().position(|byte| *byte == b'=')?;
+    Some((&argument[..at], &argument[at + 1..]))
+}
+
 fn set(made: &mut Options, option: &str, value: Option<OsString>, rest: &mut impl Iterator<Item = OsString>) -> Result<(), String> {
+    match OPTIONS.iter().find(|(name, _)| *name == option) {
+        None => return Err(format!("there is no option {option}")),
+        Some((_, words)) if !words.contains(&made.word) => return Err(format!("{option} is no option of {}", made.word.text())),
+        _ => {}
+    }
     let form = match option {
         "--names" => return set_file(&mut made.names, option, value.or_else(|| rest.next())),
         "--output" => return set_file(&mut made.output, option, value.or_else(|| rest.next())),
