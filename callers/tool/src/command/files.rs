@@ -74,6 +74,8 @@ pub const STANDARD: &str = "-";
 pub fn limited(path: &Path, most: usize, bytes: &mut Vec<u8>) -> io::Result<()> {
     // a file, not std's reader, to which an input that can't be read is an empty one
     let file = if path.as_os_str() == STANDARD { File::from(io::stdin().as_fd().try_clone_to_owned()?) } else { File::open(path)? };
+    // in one piece: most files are sheets, or no longer
+    bytes.reserve(most.min(1 << 16) + 1);
     file.take(most as u64 + 1).read_to_end(bytes).map(drop)
 }
 

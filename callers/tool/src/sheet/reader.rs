@@ -26,9 +26,17 @@ type Result<T> = std::result::Result<T, Box<Fault>>;
 
 /// What was read, and the fault that ended it.
 pub fn read(bytes: &[u8]) -> (Sheet<'_>, Option<Fault>) {
-    let mut reader = Reader { bytes, at: 0, bound: 0, body: None, kind: "", sheet: Sheet::default() };
-    let fault = reader.sheet().err().map(|fault| *fault);
+    let mut reader = Reader::new(bytes);
+    let fault = reader.sheet(true).err().map(|fault| *fault);
     (reader.sheet, fault)
+}
+
+/// A sheet that the library accepts; so no two of its rows are equal, and it is not asked.
+pub fn read_accepted(bytes: &[u8]) -> Sheet<'_> {
+    let mut reader = Reader::new(bytes);
+    // what there is of it, if the two should differ
+    let _ = reader.sheet(false);
+    reader.sheet
 }
 
 /// Which body is read.
@@ -51,14 +59,20 @@ struct Reader<'a> {
 }
 
 impl<'a> Reader<'a> {
-    fn sheet(&mut self) -> Result<()> {
+    fn new(bytes: &'a [u8]) -> Self {
+        Self { bytes, at: 0, bound: 0, body: None, kind: "", sheet: Sheet::default() }
+    }
+
+    /// `unlike` is whether rows are asked to be unlike those before.
+    fn sheet(&mut self, unlike: bool) -> Result<()> {
         let (rows, items) = self.contents()?;
-        let mut seen = HashMap::with_capacity_and_hasher(rows, BuildHasherDefault::<Fnv>::default());
+        self.sheet = Sheet { rows: Vec::with_capacity(rows), items: Vec::with_capacity(items) };
+        let mut seen = HashMap::with_capacity_and_hasher(if unlike { rows } else { 0 }, BuildHasherDefault::<Fnv>::default());
         for number in 0..rows {
             self.bound = number;
             let start = self.begin("row", number, number)?;
             let body = self.body("row", ROWS)?;
-            if let Some(before) = seen.insert(body.pairs.0, number) {
+            if let Some(before) = unlike.then(|| seen.insert(body.pairs.0, number)).flatten() {
                 return self.refuse(8, start, "", None, format_args!("a type that is in no row before; row {before} is the same"));
             }
             self.sheet.rows.push(body);

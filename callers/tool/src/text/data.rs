@@ -63,7 +63,7 @@ fn push_records(out: &mut String, sheet: &[u8], answer: Answer, names: &Names) {
     if answer.total() == 0 {
         return out.push_str("[]");
     }
-    let view = View::new(reader::read(sheet).0, names);
+    let view = View::new(reader::read_accepted(sheet), names);
     // room for most of what is said
     out.reserve(100 * answer.total());
     // what stands before and behind the numbers, for texts that message and detail decide

@@ -32,6 +32,8 @@ pub struct Declaration<'a> {
     head: String,
     letter: char,
     rows: Pairs<'a>,
+    /// Columns of what stands around them.
+    around: usize,
     /// Whether it is wider than a line.
     wide: bool,
     tail: String,
@@ -55,18 +57,12 @@ impl<'a> Declaration<'a> {
             }
             _ => made.implementation(body, types),
         }
-        let others = columns(&made.head) + columns(&made.tail);
+        made.around = columns(&made.head) + columns(&made.tail);
         let listed = |sum: usize, (number, row)| {
-            let before = if number == 0 {
-                "f0: ".len()
-            } else if number < 10 {
-                ", f1: ".len()
-            } else {
-                ", f10: ".len()
-            };
-            Some(sum + before + types.columns(row)).filter(|sum| *sum <= WIDTH)
+            let between = if number > 0 { ", ".len() } else { 0 };
+            Some(sum + between + listed_columns(number, row, types)).filter(|sum| *sum <= WIDTH)
         };
-        made.wide = made.rows.iter().enumerate().try_fold(others, listed).is_none();
+        made.wide = made.rows.iter().enumerate().try_fold(made.around, listed).is_none();
         made
     }
 
@@ -190,7 +186,7 @@ impl<'a> Declaration<'a> {
     pub fn push_parts(&self, out: &mut String, types: &Types, wanted: &[Part], found: &mut Vec<Range<usize>>) {
         let head = out.len();
         out.push_str(&self.head);
-        self.push_numbers(out, types, head, 0..self.rows.len(), &mut Vec::new());
+        self.push_numbers(out, types, 0..self.rows.len(), &mut Vec::new());
         let tail = out.len();
         out.push_str(&self.tail);
         let in_tail = self.in_tail.iter().map(|span| (tail, Part::Return, span));
@@ -201,10 +197,9 @@ impl<'a> Declaration<'a> {
     /// The declaration; of one that is wider than a line, only the wanted fields or arguments, whose numbers rise, as many as have room. `found`
     /// gets the places of those that are shown.
     pub fn push_near(&self, out: &mut String, types: &Types, wanted: impl Iterator<Item = usize>, found: &mut Vec<Range<usize>>) {
-        let head = out.len();
         out.push_str(&self.head);
         if self.wide {
-            self.push_numbers(out, types, head, wanted, found);
+            self.push_numbers(out, types, wanted, found);
         } else {
             let mut wanted = wanted.peekable();
             for number in 0..self.rows.len() {
@@ -218,29 +213,22 @@ impl<'a> Declaration<'a> {
     }
 
     /// The first of these fields or arguments, and as many more as a line has room for; where others are left out, dots.
-    fn push_numbers(
-        &self,
-        out: &mut String,
-        types: &Types,
-        head: usize,
-        numbers: impl Iterator<Item = usize>,
-        found: &mut Vec<Range<usize>>,
-    ) {
-        let mut next = 0;
+    fn push_numbers(&self, out: &mut String, types: &Types, numbers: impl Iterator<Item = usize>, found: &mut Vec<Range<usize>>) {
+        let (mut next, mut sum) = (0, self.around);
         for number in numbers {
-            let before = out.len();
-            out.push_str(match (next, number) {
+            let between = match (next, number) {
                 (0, 0) => "",
                 (0, _) => "..., ",
                 (next, number) if next == number => ", ",
                 _ => ", ..., ",
-            });
-            let start = out.len();
-            self.push_listed(out, types, number);
-            if self.wide && next > 0 && columns(&out[head..]) + columns(&self.tail) > WIDTH {
-                out.truncate(before);
+            };
+            sum += between.len() + listed_columns(number, self.rows.get(number).unwrap_or_default(), types);
+            if self.wide && next > 0 && sum > WIDTH {
                 break;
             }
+            out.push_str(between);
+            let start = out.len();
+            self.push_listed(out, types, number);
             found.push(start..out.len());
             next = number + 1;
         }
@@ -248,6 +236,12 @@ impl<'a> Declaration<'a> {
             out.push_str(if next > 0 { ", ..." } else { "..." });
         }
     }
+}
+
+/// Columns of `f0: u8`.
+fn listed_columns(number: usize, row: u16, types: &Types) -> usize {
+    let name = if number < 10 { "f0: ".len() } else { "f10: ".len() };
+    name + types.columns(row)
 }
 
 pub fn push_lifetime(out: &mut String, lifetime: u16) {

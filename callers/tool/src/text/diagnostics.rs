@@ -27,6 +27,12 @@ struct Frame {
     note: String,
 }
 
+/// What is said of parts of one row or item: the first record, and the parts' numbers.
+struct Group {
+    record: Record,
+    numbers: Vec<u16>,
+}
+
 /// Writes diagnostics; has buffers that serve them all.
 pub struct Diagnostics<'v, 'a> {
     view: &'v View<'a>,
@@ -51,19 +57,23 @@ impl<'v, 'a> Diagnostics<'v, 'a> {
 
     pub fn push(&mut self, out: &mut String, records: &[Record]) {
         // by what is said; the lists serve every run
-        let (mut said, mut groups) = (Vec::new(), Vec::<Vec<Record>>::new());
-        let parted = |r: &Record| Letter::of(r.letter).is_some_and(Letter::has_second);
-        for run in records.chunk_by(|a, b| parted(a) && (a.letter, a.first) == (b.letter, b.first)) {
+        let (mut said, mut groups) = (Vec::new(), Vec::<Group>::new());
+        let mut rest = records;
+        while let Some(first) = rest.first() {
+            let parted = Letter::of(first.letter).is_some_and(Letter::has_second);
+            let same = |record: &&Record| (record.letter, record.first) == (first.letter, first.first);
+            let (run, behind) = rest.split_at(if parted { rest.iter().take_while(same).count() } else { 1 });
+            rest = behind;
             said.clear();
+            let derives = first.letter == Letter::Derive as u8;
             for record in run {
-                let says = says(record, self.view);
+                let says = says(record, if derives { self.derive(record) } else { 0 });
                 let place = said.iter().position(|other| *other == says).unwrap_or(said.len());
                 if place == said.len() {
                     said.push(says);
-                    groups.resize(groups.len().max(said.len()), Vec::new());
-                    groups[place].clear();
+                    begin(&mut groups, place, record);
                 }
-                groups[place].push(*record);
+                groups[place].numbers.push(record.second);
             }
             for group in &groups[..said.len()] {
                 self.push_group(out, group);
@@ -71,41 +81,42 @@ impl<'v, 'a> Diagnostics<'v, 'a> {
         }
     }
 
-    /// Records of parts of one row or item, with one text.
-    fn push_group(&mut self, out: &mut String, records: &[Record]) {
+    /// The derive that a record is about.
+    fn derive(&self, record: &Record) -> u16 {
+        let derives = self.view.sheet.item(record.first).map(|item| item.derives);
+        derives.and_then(|derives| derives.get(usize::from(record.second))).unwrap_or_default()
+    }
+
+    fn push_group(&mut self, out: &mut String, group: &Group) {
         out.push_str(&self.frame.number);
-        number::push(out, usize::from(records[0].message));
+        number::push(out, usize::from(group.record.message));
         out.push_str(&self.frame.text);
-        messages::push(out, &records[0], self.view);
+        messages::push(out, &group.record, self.view);
         out.push_str(&self.frame.place);
-        place::push(out, records, self.view);
-        match self.view.place(&records[0]) {
-            Some(used) => self.push_declaration(out, used, records),
+        place::push(out, &group.record, &group.numbers, self.view);
+        match self.view.place(&group.record) {
+            Some(used) => self.push_declaration(out, used, group),
             None => out.push('\n'),
         }
     }
 
-    fn push_declaration(&mut self, out: &mut String, used: Use, records: &[Record]) {
+    fn push_declaration(&mut self, out: &mut String, used: Use, group: &Group) {
         let Some(declaration) = self.view.declaration(used.item) else { return out.push('\n') };
         let types = &self.view.types;
         self.marked.clear();
         out.push_str(&self.frame.declaration);
         let start = out.len();
-        let of_row = matches!(Letter::of(records[0].letter), Some(Letter::Row | Letter::RowArgument));
+        let of_row = matches!(Letter::of(group.record.letter), Some(Letter::Row | Letter::RowArgument));
         match used.part {
             Part::Listed(number) if of_row => declaration.push_near(out, types, once(usize::from(number)), &mut self.marked),
-            Part::Listed(_) => {
-                let numbers = records.iter().map(|record| usize::from(record.second));
-                declaration.push_near(out, types, numbers, &mut self.marked);
-            }
-            _ if of_row => declaration.push_parts(out, types, &[used.part], &mut self.marked),
+            Part::Listed(_) => declaration.push_near(out, types, group.numbers.iter().map(|&number| usize::from(number)), &mut self.marked),
+            part if of_row => declaration.push_parts(out, types, &[part], &mut self.marked),
             _ => {
-                let parts: Vec<Part> = records.iter().filter_map(|record| self.view.place(record)).map(|used| used.part).collect();
+                let parts: Vec<Part> = group.records().filter_map(|record| self.view.place(&record)).map(|used| used.part).collect();
                 declaration.push_parts(out, types, &parts, &mut self.marked);
             }
         }
-        let inside = if of_row { self.mark_row(used, records) } else { None };
-        let shown = self.marked.len();
+        let inside = if of_row { self.mark_row(used, group) } else { None };
         let line = out.len();
         out.push_str(&self.frame.marks);
         self.push_marks(out, start, line);
@@ -114,14 +125,14 @@ impl<'v, 'a> Diagnostics<'v, 'a> {
             self.push_long(out, row);
         }
         if !of_row {
-            self.push_longs(out, &records[..shown.min(records.len())]);
+            self.push_longs(out, group);
         }
     }
 
     /// Marks the row within the part that uses it, or its arguments that are meant. Gives the row in whose number it is hidden, if it is.
-    fn mark_row(&mut self, used: Use, records: &[Record]) -> Option<u16> {
+    fn mark_row(&mut self, used: Use, group: &Group) -> Option<u16> {
         let types = &self.view.types;
-        let row = records[0].first;
+        let Record { first: row, letter, .. } = group.record;
         let outer = self.view.used_row(used)?;
         let (shown, span) = types.find(outer, row)?;
         let [part] = &self.marked[..] else { return None };
@@ -129,19 +140,20 @@ impl<'v, 'a> Diagnostics<'v, 'a> {
         let whole = types.find(outer, outer)?.1.len();
         let start = part.end - whole + span.start;
         self.marked.clear();
-        let argument = |record: &Record| types.parts(row).get(usize::from(record.second)).map(|(_, span)| span);
-        if records[0].letter == Letter::RowArgument as u8 && shown == row && !types.is_long(row) {
-            self.marked.extend(records.iter().filter_map(argument).map(|span| start + span.start..start + span.end));
+        let argument = |number: &u16| types.parts(row).get(usize::from(*number)).map(|(_, span)| span);
+        if letter == Letter::RowArgument as u8 && shown == row && !types.is_long(row) {
+            self.marked.extend(group.numbers.iter().filter_map(argument).map(|span| start + span.start..start + span.end));
         } else {
             self.marked.push(start..start + span.len());
         }
         Some(shown).filter(|shown| *shown != row)
     }
 
-    /// What the types of fields, arguments or a return are that are written by their numbers.
-    fn push_longs(&self, out: &mut String, records: &[Record]) {
+    /// What the types of fields, arguments or a return are that are marked and written by their numbers.
+    fn push_longs(&self, out: &mut String, group: &Group) {
         let mut told = Vec::new();
-        for row in records.iter().filter_map(|record| self.view.place_row(record)).filter(|row| self.view.types.is_long(*row)) {
+        let shown = group.records().take(self.marked.len());
+        for row in shown.filter_map(|record| self.view.place_row(&record)).filter(|row| self.view.types.is_long(*row)) {
             if !told.contains(&row) {
                 told.push(row);
                 self.push_long(out, row);
@@ -176,10 +188,25 @@ impl<'v, 'a> Diagnostics<'v, 'a> {
     }
 }
 
+impl Group {
+    fn records(&self) -> impl Iterator<Item = Record> {
+        self.numbers.iter().map(|&second| Record { second, ..self.record })
+    }
+}
+
+/// Begins a group in a place that may have held another.
+fn begin(groups: &mut Vec<Group>, place: usize, record: &Record) {
+    match groups.get_mut(place) {
+        Some(group) => {
+            group.record = *record;
+            group.numbers.clear();
+        }
+        None => groups.push(Group { record: *record, numbers: Vec::new() }),
+    }
+}
+
 /// What a record says of its part, message, detail and derive in one number: records of one letter and one row or item that say the same
 /// have the same text.
-fn says(record: &Record, view: &View) -> u64 {
-    let derive = || view.sheet.item(record.first)?.derives.get(usize::from(record.second));
-    let derive = if record.letter == Letter::Derive as u8 { derive() } else { None };
-    u64::from(record.message) << 32 | u64::from(record.detail) << 16 | u64::from(derive.unwrap_or_default())
+fn says(record: &Record, derive: u16) -> u64 {
+    u64::from(record.message) << 32 | u64::from(record.detail) << 16 | u64::from(derive)
 }

@@ -7,22 +7,22 @@ use crate::text::uses::Use;
 use crate::text::view::View;
 use tirvouez::{Letter, Record};
 
-/// The place of records that stand together.
-pub fn push(out: &mut String, records: &[Record], view: &View) {
-    let Some(Record { letter, first, .. }) = records.first().copied() else { return };
+/// The place of a record, or of several that differ by the numbers of the parts.
+pub fn push(out: &mut String, record: &Record, numbers: &[u16], view: &View) {
+    let Record { letter, first, .. } = *record;
     match Letter::of(letter) {
         Some(Letter::Row) => push_row(out, first, view),
         Some(Letter::RowArgument) => {
-            push_numbers(out, "argument", records);
+            push_numbers(out, "argument", numbers);
             out.push_str(" of ");
             push_row(out, first, view);
         }
         Some(letter) => {
             match letter {
-                Letter::Field => push_numbers(out, "field", records),
-                Letter::Argument => push_numbers(out, "argument", records),
-                Letter::Derive => push_numbers(out, "derive", records),
-                Letter::Lifetime => push_numbers(out, "lifetime", records),
+                Letter::Field => push_numbers(out, "field", numbers),
+                Letter::Argument => push_numbers(out, "argument", numbers),
+                Letter::Derive => push_numbers(out, "derive", numbers),
+                Letter::Lifetime => push_numbers(out, "lifetime", numbers),
                 Letter::Return => out.push_str("the return"),
                 _ => {}
             }
@@ -63,15 +63,15 @@ fn push_use(out: &mut String, used: Use, view: &View) {
 }
 
 /// `field 2`; `fields 0, 2 to 5`.
-fn push_numbers(out: &mut String, word: &str, records: &[Record]) {
+fn push_numbers(out: &mut String, word: &str, numbers: &[u16]) {
     out.push_str(word);
-    out.push_str(if records.len() > 1 { "s " } else { " " });
-    for (number, run) in records.chunk_by(|a, b| a.second + 1 == b.second).enumerate() {
+    out.push_str(if numbers.len() > 1 { "s " } else { " " });
+    for (number, run) in numbers.chunk_by(|a, b| a + 1 == *b).enumerate() {
         out.push_str(if number > 0 { ", " } else { "" });
-        number::push(out, usize::from(run[0].second));
+        number::push(out, usize::from(run[0]));
         if let [_, .., last] = run {
             out.push_str(if run.len() > 2 { " to " } else { ", " });
-            number::push(out, usize::from(last.second));
+            number::push(out, usize::from(*last));
         }
     }
 }

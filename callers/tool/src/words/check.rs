@@ -45,14 +45,15 @@ fn push_words(out: &mut String, context: &Context, sheet: &[u8], answer: Answer)
     if answer.verdict().is_ok() && answer.total() == 0 {
         return;
     }
-    let (read, fault) = reader::read(sheet);
     if let Err(verdict) = answer.verdict() {
+        let (_, fault) = reader::read(sheet);
         refusal::push(out, verdict, fault.as_ref(), sheet, &context.style);
+    } else {
+        let view = View::new(reader::read_accepted(sheet), context.names);
+        let records: Vec<Record> = answer.records().collect();
+        // room for most of what is said
+        out.reserve(100 * records.len());
+        Diagnostics::new(&view, context.style).push(out, &records);
     }
-    let view = View::new(read, context.names);
-    let records: Vec<Record> = answer.records().collect();
-    // room for most of what is said
-    out.reserve(100 * records.len());
-    Diagnostics::new(&view, context.style).push(out, &records);
     out.push('\n');
 }
