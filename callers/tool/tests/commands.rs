@@ -188,6 +188,9 @@ fn the_part_that_is_meant() {
     let rows = "row 0 24\nrow 7 3 0\nrow 7 1 0\nrow 12 0 65535 2 1 2\nitem 3 24 0 0 1\nitem 5 25 2 0 0 65535 1 3";
     let line = "  | unsafe extern \"C++\" fn n25(a0: fn(Pin<&mut n24>, &mut n24))\n";
     assert_eq!(declared(rows, "error[18]"), format!("{line}  | {}^^^^^^^^\n", " ".repeat(49)));
+    // the first item that comes to a row, not another that uses it
+    let rows = "row 0 99\nrow 2 0\nitem 0\nitem 1 24 0 0 1 1\nitem 1 25 0 0 1 0";
+    assert_eq!(declared(rows, "error[3]"), "  | struct n24 { f0: Vec<n99> }\n  |                      ^^^\n");
     // the arguments of a function's type
     let rows = "row 9\nrow 8 0 0\nrow 12 0 65535 3 1 0 1\nitem 1 24 0 0 1 2";
     let line = "  | struct n24 { f0: fn(*const &str, &str, *const &str) }\n  |                     ^^^^^^^^^^^        ^^^^^^^^^^^\n";
@@ -230,6 +233,23 @@ fn what_is_long() {
 }
 
 #[test]
+fn numbers_of_several_parts() {
+    let place = |fields: &str| {
+        let sheet = piped(&["make", "-"], format!("row 0 2\nrow 13\nitem 1 24 0 0 {fields}").as_bytes()).stdout;
+        with_input(&["check", "-"], &sheet).1.lines().nth(3).map(str::to_owned)
+    };
+    for (fields, numbers) in [("2 0 1", "field 1"), ("3 1 1 0", "fields 0, 1"), ("7 1 0 1 1 1 0 1", "fields 0, 2 to 4, 6")] {
+        assert_eq!(place(fields), Some(format!(" --> {numbers} of item 0")));
+    }
+    // as many of the fields that are meant as eighty columns hold, with dots for the others
+    let line = |fields: &str| declared(&format!("row 0 2\nrow 13\nitem 1 24 0 0 {fields}"), "error[32]").lines().next().map(str::to_owned);
+    let four = "  | struct n24 { f0: (), ..., f2: (), ..., f4: (), ..., f6: (), ... }";
+    assert_eq!(line("10 1 0 1 0 1 0 1 0 1 0").as_deref(), Some(four));
+    let five = "  | struct n24 { f0: (), ..., f2: (), ..., f4: (), ..., f6: (), ..., f8: () }";
+    assert_eq!(line("9 1 0 1 0 1 0 1 0 1").as_deref(), Some(five));
+}
+
+#[test]
 fn every_record_is_told() {
     // message 4 of a Box in a Vec comes twice
     let rows = "row 0 24\nrow 1 0\nrow 2 1\nitem 3 24 0 0 1\nitem 5 25 2 0 0 65535 1 2";
@@ -247,6 +267,16 @@ fn orders() {
         "{cycle}"
     );
     assert!(cycle.contains("6. item 5 n29, tier 1, holds item 4 n28 (f0)\n"), "{cycle}");
+    // of two structs with one name a field leads to the last
+    let rows = "row 0 24\nrow 0 2\nitem 1 24 0 0 1 0\nitem 1 24 0 0 1 1";
+    let sheet = piped(&["make", "-"], rows.as_bytes()).stdout;
+    let last = "-: 2 structs\n1. item 1 n24, tier 0, holds none\n2. item 0 n24, tier 1, holds item 1 n24 (f0)\n\n";
+    assert_eq!(with_input(&["order", "-"], &sheet).1, last);
+    // a field that leads to a struct and has another message is not cyclic
+    let rows = "row 0 14\nrow 0 2\nitem 1 14 0 0 1 1\nitem 1 24 0 0 1 0";
+    let sheet = piped(&["make", "-"], rows.as_bytes()).stdout;
+    assert!(with_input(&["check", "-"], &sheet).1.contains("error[32]: using struct by value is not supported\n --> field 0 of item 1\n"));
+    assert!(with_input(&["order", "-"], &sheet).1.ends_with("2. item 1 n24, tier 1, holds item 0 CxxString (f0)\n\n"));
     let dot = run(&["order", "--dot", "samples/worked.sheet", "samples/refused.sheet"]);
     let expected = "digraph \"samples/worked.sheet\" {
   i1 [label=\"n25\\nitem 1, tier 255\"];

@@ -223,7 +223,8 @@ impl<'a> Declaration<'a> {
                 _ => ", ..., ",
             };
             sum += between.len() + listed_columns(number, self.rows.get(number).unwrap_or_default(), types);
-            if self.wide && next > 0 && sum > WIDTH {
+            let behind = if number + 1 < self.rows.len() { MORE.len() } else { 0 };
+            if self.wide && next > 0 && sum + behind > WIDTH {
                 break;
             }
             out.push_str(between);
@@ -233,10 +234,13 @@ impl<'a> Declaration<'a> {
             next = number + 1;
         }
         if next < self.rows.len() {
-            out.push_str(if next > 0 { ", ..." } else { "..." });
+            out.push_str(if next > 0 { MORE } else { "..." });
         }
     }
 }
+
+/// Fields or arguments that are left out at the end.
+const MORE: &str = ", ...";
 
 /// Columns of `f0: u8`.
 fn listed_columns(number: usize, row: u16, types: &Types) -> usize {
