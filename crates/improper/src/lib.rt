@@ -1,4 +1,5 @@
 // The search for improper structs: the `retain` loop at the end of `Types::collect`, over the looks of rows (row_tables).
+#![tactic(auto)]
 ghost use Rattle.std.specs.Prelude.{◌≡◌};
 ghost use Rattle.rules.specs.Improper.{hits};
 ghost use Rattle.row_tables.specs.Tables.{look_of};
@@ -17,7 +18,7 @@ use sheet::pair_at;
 mod targets; // where the fields of a name lead, and what a pass may skip by it
 
 // What a pass makes of the set, and whether it found a name.
-#[derive(Drop)]
+#[derive(Clone, Copy)]
 pub struct Pass {
     pub found: NameSet,
     pub new: bool,

@@ -1,7 +1,9 @@
 // Sets of names by value, and what is known of the names in one table that is lent.
+#![tactic(auto)]
+
 ghost use Rattle.std.specs.Prelude.{◌≡◌, ◌^◌, ◌%◌, eqb};
 ghost use Rattle.std.specs.Int.Bits.{bit_or};
-ghost use Rattle.rules.specs.Names.{◌∋◌, add, bit_of, empty as emptyWords, size as size_of};
+ghost use Rattle.rules.specs.Names.{◌∋◌, add, bit_of, empty as empty_words, size as size_of};
 ghost use Rattle.names.specs.Ones.{Ones};
 
 use rules::NameSet;
@@ -9,7 +11,7 @@ use rules::NameSet;
 pub mod known; // what is known of the names
 
 pub fn empty() -> NameSet
-    ensures { result.words ≡ emptyWords }
+    ensures { result.words ≡ empty_words }
 {
     NameSet { words: [0; 4] }
 }

@@ -1,5 +1,6 @@
 // Replays the stored answers of the original Rust (testdata/answers.bin, on standard input): every part of each answer, the collected rows and the
 // records are compared with what the port says of the same sheet. Prints a line of counts, and before it the first sheets that differ.
+#![tactic(auto)]
 ghost use Rattle.io.specs.Counts.{IsPrefixLen};
 
 mod input; // the stored file

@@ -1,4 +1,5 @@
 // The types that a bridge sheet's answer is made of, and the numbers that have a name. What each value means is said in specs/; no function stands here.
+#![tactic(auto)]
 pub mod derive; // derives and lifetimes with a rule
 pub mod item; // kinds of items
 pub mod limit; // limits of a sheet
@@ -8,7 +9,7 @@ pub mod set; // sets of names
 pub mod size; // sizes of what is lent and written
 
 // What a step of the reader comes to: the place after what it read, or a refusal with its number and position.
-#[derive(Drop)]
+#[derive(Clone, Copy)]
 pub enum Step {
     Next(usize),
     Refused { number: u8, position: usize },
@@ -16,7 +17,7 @@ pub enum Step {
 
 // The subject of a diagnostic, by the letters of docs/SHEET.md: row; row and argument; item; item and field; item and argument; item's return; item
 // and derive; item and lifetime.
-#[derive(Drop)]
+#[derive(Clone, Copy)]
 pub enum Place {
     R(u16),
     G(u16, u8),
@@ -28,7 +29,7 @@ pub enum Place {
     L(u8, u8),
 }
 
-#[derive(Drop)]
+#[derive(Clone, Copy)]
 pub struct Diagnostic {
     pub message: u8,
     pub place: Place,
@@ -36,19 +37,19 @@ pub struct Diagnostic {
 }
 
 // A set of names: name n is bit n % 64 of word n / 64.
-#[derive(Drop)]
+#[derive(Clone, Copy)]
 pub struct NameSet {
     pub words: [u64; 4],
 }
 
-#[derive(Drop)]
+#[derive(Clone, Copy)]
 pub enum Verdict {
     Accepted,
     Refused { number: u8, position: usize },
 }
 
 // What one call answers.
-#[derive(Drop)]
+#[derive(Clone, Copy)]
 pub struct Answer {
     pub verdict: Verdict,
     // structs, enums, cxx, rust, aliases, untrusted, required-trivial, improper; and the size of each

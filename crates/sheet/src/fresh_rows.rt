@@ -55,7 +55,7 @@ fn mix(k: u64, p: u16) -> u64
 }
 
 // Two keys of one row, from two seeds.
-#[derive(Drop)]
+#[derive(Clone, Copy)]
 pub struct Keys {
     pub first: u64,
     pub second: u64,

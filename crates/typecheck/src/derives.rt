@@ -12,7 +12,7 @@ use sheet::logic::and;
 use sheet::pair_at;
 
 // Whose derives they are: those of an extern type may be of Rust or of C++.
-#[derive(Drop)]
+#[derive(Clone, Copy)]
 pub enum Owner {
     Struct,
     Enum,

@@ -33,6 +33,7 @@ module _ {X : Type 0} {P : X → Type 0} where
   pub all-some : {Q : X → Type 0} {C : Type 0} {xs : List X} → ((x : X) → P x → Q x → C) → All P xs → Some Q xs → C
   all-some f (more {x = x} p ps) (first q) = f x p q
   all-some f (more p ps) (later q) = all-some f ps q
+  all-some {Q = Q} {C = C} f none q = elim q [ ]
 
 pub all_map : {X : Type 0} (P Q : X → Type 0) → ((x : X) → P x → Q x) → {xs : List X} → All P xs → All Q xs
 all_map P Q f none = none

@@ -1,0 +1,13 @@
+-- `names::insert` is `add` of the rules: the word gets the bit, and past the last word nothing is stored.
+-- Assumes nothing.
+use borrow.Author.Rules.{rules}
+use Rattle.rules.specs.Names.{add}
+use Rattle.names.proofs.Laws.{insert-none}
+use Rattle.names.proofs.insert.Goals as goal
+
+pub returns-then-q-lt4 : goal.returns-then-q-lt4
+unfolding add
+returns-then-q-lt4 c = rw c.with_bit.ensures
+
+pub returns : goal.returns
+returns c = search (rules, insert-none)

@@ -1,0 +1,13 @@
+-- `known::is_cxx` is `is_cxx` of the rules, by the table.
+-- Assumes nothing.
+use borrow.Author.Rules.{rules}
+use mathlib.Core.Path.{sym, ap, ◌∙◌}
+use lib.Dec.{ltb}
+use Rattle.rules.specs.Types.{is_cxx}
+use Rattle.names.specs.Known.{tabled}
+use Rattle.names.proofs.Columns.{has-is}
+use Rattle.names.proofs.known.is_cxx.Goals as goal
+
+pub returns : goal.returns
+unfolding is_cxx tabled
+returns c s = ap (ltb 0) c.entry.ensures ∙ sym (has-is _ _ _)

@@ -1,0 +1,12 @@
+-- `known::reasons_for` is `reasons_for` of the rules, by the table.
+-- Assumes nothing.
+use borrow.Author.Rules.{rules}
+use mathlib.Core.Path.{sym, ◌∙◌}
+use Rattle.rules.specs.Types.{reasons_for}
+use Rattle.names.specs.Known.{tabled}
+use Rattle.names.proofs.Columns.{count-is}
+use Rattle.names.proofs.known.reasons_for.Goals as goal
+
+pub returns : goal.returns
+unfolding reasons_for tabled
+returns c s = c.entry.ensures ∙ sym (count-is _ _ _)

@@ -1,0 +1,12 @@
+-- `known::struct_of` is `struct_of` of the rules, by the table.
+-- Assumes nothing.
+use borrow.Author.Rules.{rules}
+use mathlib.Core.Path.{sym, ap, ◌∙◌}
+use Rattle.rules.specs.Types.{struct_of}
+use Rattle.names.specs.Known.{item_in, tabled}
+use Rattle.names.proofs.Columns.{last-is}
+use Rattle.names.proofs.known.struct_of.Goals as goal
+
+pub returns : goal.returns
+unfolding struct_of tabled
+returns c s = c.item_in.ensures ∙ ap item_in c.entry.ensures ∙ sym (last-is _ _ _)

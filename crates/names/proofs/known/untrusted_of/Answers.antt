@@ -1,0 +1,12 @@
+-- `known::untrusted_of` is `untrusted_of` of the rules, by the table.
+-- Assumes nothing.
+use borrow.Author.Rules.{rules}
+use mathlib.Core.Path.{sym, ap, ◌∙◌}
+use Rattle.rules.specs.Types.{untrusted_of}
+use Rattle.names.specs.Known.{item_in, tabled}
+use Rattle.names.proofs.Columns.{last-is}
+use Rattle.names.proofs.known.untrusted_of.Goals as goal
+
+pub returns : goal.returns
+unfolding untrusted_of tabled
+returns c s = c.item_in.ensures ∙ ap item_in c.entry.ensures ∙ sym (last-is _ _ _)

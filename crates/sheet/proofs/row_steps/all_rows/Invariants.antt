@@ -1,0 +1,29 @@
+-- `all_rows` reads rows one after the other. The invariant: what is left of the step is the rows from r on, from here on, and, if row r stands here, the
+-- keys and marks of the rows before it are kept. The measure is how many rows are left.
+-- Assumes nothing.
+use borrow.Author.Rules.{rules}
+use Prim.Native.Nat.{ℕ, ◌-◌, ◌≤◌}
+use mathlib.Core.Path.{◌≡◌, refl}
+use mathlib.Core.List.{List}
+use native.Mathlib.Nat.{sub-zero}
+use native.Mathlib.Omega.{arith}
+use lib.ListN.{length, length-replicate, length-set}
+use Rattle.rules.specs.Format.{each, row_at, offset}
+use Rattle.sheet.specs.Keys.{Kept}
+use Rattle.sheet.proofs.StepLaws.{each-stop, each-go, each-end}
+use Rattle.sheet.proofs.FreshLaws.{placed-here, row-refused, row_new, row_seen, sought, kept_again}
+use Rattle.sheet.proofs.row_steps.all_rows.Given as goal
+
+pub record Reading (s : List ℕ) (n at : ℕ) (keys more seen : List ℕ) (here r : ℕ) : Type 0 where
+  pub left : each (row_at s) n 0 at ≡ each (row_at s) (n - r) r here
+  pub within : r ≤ n
+  pub kept : offset s r ≡ here → Kept s keys more seen r
+  pub keys-long : length keys ≡ 1024
+  pub more-long : length more ≡ 1024
+  pub seen-long : length seen ≡ 16384
+
+abbrev pub invariant-loop-r : goal.invariant-loop-r
+invariant-loop-r l = Reading l.s l.n l.at l.keys l.more l.seen l.here l.r
+
+abbrev pub decreases-loop-r : goal.decreases-loop-r
+decreases-loop-r l = l.n - l.r
