@@ -1,7 +1,7 @@
 // Answers, made of their parts.
 ghost use Rattle.std.specs.Prelude.{◌≡◌};
 ghost use Rattle.rules.specs.Numbers.{required_trivial_set};
-ghost use Rattle.rules.specs.Answer.{refused as refusedAnswer};
+ghost use Rattle.rules.specs.Answer.{refused as refused_answer};
 ghost use Rattle.names.specs.Known.{counts_in};
 ghost use Rattle.bridge_core.specs.Run.{answer_with};
 
@@ -10,7 +10,7 @@ use names::known::Names;
 use rules::{Answer, NameSet, Verdict, limit, name, set};
 
 pub fn refused(number: u8, position: usize) -> Answer
-    ensures { result ≡ refusedAnswer number position }
+    ensures { result ≡ refused_answer number position }
 {
     let none = names::empty();
     Answer {

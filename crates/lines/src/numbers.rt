@@ -1,6 +1,6 @@
 // Bytes and decimal numbers. Each function gives the place after what it wrote.
 ghost use Rattle.std.specs.Prelude.{◌≡◌, [], ◌∷◌, ◌+◌, ◌%◌, ◌≤◌, length};
-ghost use Rattle.rules.specs.Text.{digit as digitOf, decimal, spaced};
+ghost use Rattle.rules.specs.Text.{digit as digit_of, decimal, spaced};
 ghost use Rattle.lines.specs.Put.{Put};
 
 // The one store of this crate.
@@ -15,7 +15,7 @@ pub fn put1(out: &mut [u8], at: usize, x: u8) -> usize
 
 // A number's last digit.
 fn digit(n: u64) -> u8
-    ensures { result ≡ digitOf (n % 10) }
+    ensures { result ≡ digit_of (n % 10) }
 {
     b'0' + (n % 10) as u8
 }

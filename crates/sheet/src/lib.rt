@@ -2,6 +2,7 @@
 // A row, a name, an item, a count is a u16 and a place a u32, so that no accessor asks anything of its caller: past the end every byte is 0. The two that say
 // `within` ask that what they read stands in the sheet.
 #![tactic(auto)]
+
 ghost use Rattle.std.specs.Prelude.{◌≡◌, ◌+◌, ◌≤◌, leb, length, get_or};
 ghost use Rattle.rules.specs.Format.{pair_at, offset};
 

@@ -14,13 +14,13 @@ use Rattle.sheet.proofs.row_steps.all_rows.Goals as goal
 
 pub loop-r-init : goal.loop-r-init
 loop-r-init c = record {
-      left = rw sub-zero;
-      within = search rules;
-      kept = λ e. record { held = λ i l. absurd (omega arith); held2 = λ i l. absurd (omega arith); marked = λ i l. absurd (omega arith) };
-      keys-long = length-replicate {A = ℕ} 1024 0;
-      more-long = length-replicate {A = ℕ} 1024 0;
-      seen-long = length-replicate {A = ℕ} 16384 0;
-    }
+  left = rw sub-zero;
+  within = search rules;
+  kept = λ e. record { held = λ i l. absurd (omega arith); held2 = λ i l. absurd (omega arith); marked = λ i l. absurd (omega arith) };
+  keys-long = length-replicate {A = ℕ} 1024 0;
+  more-long = length-replicate {A = ℕ} 1024 0;
+  seen-long = length-replicate {A = ℕ} 16384 0;
+}
 
 pub returns-in_default : goal.returns-in_default
 returns-in_default c = search (each-stop, row-refused)
