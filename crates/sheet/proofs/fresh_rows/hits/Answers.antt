@@ -15,8 +15,8 @@ loop-i-preserved c =
     let keys = c.args.keys.now in
     let inv = c.loop-i.invariant.2 in
     elim c.if-keys-i.branch [
-      | then-keys-i w ↦ (omega arith, omega arith, count-hit keys _ _ _ inv ?)
-      | else-keys-i w ↦ (omega arith, omega arith, count-miss keys _ _ _ inv ? ?)
+      | then-keys-i w ↦ (omega arith, omega arith, count-hit keys _ _ _ inv w.n-is)
+      | else-keys-i w ↦ (omega arith, omega arith, count-miss keys _ _ _ inv w.n-is w.if-keys-i.false)
     ]
 
 pub returns : goal.returns

@@ -31,12 +31,12 @@ returns-in-8 c = rw c.in-8.is (cc)
 
 pub returns-in-3 : goal.returns-in-3
 returns-in-3 c =
-    let r = c.in_default-1.rest in
+    let r = c.in-3.in_default-own.rest in
     let head = c.type_head-in-3.ensures in
-    item-type _ _ _ _ c.if-k-lt1.false r.0.0.0.0.0.1 r.0.0.0.0.1 c.in-3.if-k-lt5-own.true head c.then_limited-in-3.ensures
+    item-type _ _ _ _ c.in-3.if-k-lt1-own.false r.0.0.0.0.0.1 r.0.0.0.0.1 c.in-3.if-k-lt5-own.true head c.then_limited-in-3.ensures
 
 pub returns-in_default : goal.returns-in_default
 returns-in_default c = search item-none
 
 pub returns-in_default-2 : goal.returns-in_default-2
-returns-in_default-2 c = let r = c.in_default-1.rest in item-past _ _ _ _ c.in_default.if-k-lt5-own.false r.0.0.0.1 r.0.0.1 r.0.1 r.1
+returns-in_default-2 c = let r = c.in_default.in_default-own.rest in item-past _ _ _ _ c.in_default.if-k-lt5-own.false r.0.0.0.1 r.0.0.1 r.0.1 r.1

@@ -30,7 +30,7 @@ fresh-requires c =
     let turn = c.loop-r in
     let here = placed-here _ _ _ c.placed-step.ensures c.in-Next.is in
     let keys = c.keys_of-two.ensures in
-    (sought _ _ _ turn.seen _ _ _ _ _ turn.invariant.kept here keys.low keys.high (omega arith), turn.invariant.kept here)
+    record { sought = sought _ _ _ turn.seen _ _ _ _ _ turn.invariant.kept here keys.low keys.high (omega arith); kept = turn.invariant.kept here }
 
 pub returns-else-fresh : goal.returns-else-fresh
 returns-else-fresh c =

@@ -25,7 +25,7 @@ unfolding body_of row_kinds
 returns-in-12 c = rw c.in-12.is c.signature.ensures
 
 pub returns-in-1-to-6 : goal.returns-in-1-to-6
-returns-in-1-to-6 c = body-wrap _ _ _ _ c.in_default-1.rest.0.0.0.0.1 c.in-1-to-6.if-k-lt7-own.true c.limited-in-1-to-6.ensures
+returns-in-1-to-6 c = body-wrap _ _ _ _ c.in-1-to-6.in_default-own.rest.0.0.0.0.1 c.in-1-to-6.if-k-lt7-own.true c.limited-in-1-to-6.ensures
 
 pub returns-in_default : goal.returns-in_default
-returns-in_default c = let r = c.in_default-1.rest in body-none _ _ _ _ c.in_default.if-k-lt7-own.false r.0.0.0.1 r.0.0.1 r.0.1 r.1
+returns-in_default c = let r = c.in_default.in_default-own.rest in body-none _ _ _ _ c.in_default.if-k-lt7-own.false r.0.0.0.1 r.0.0.1 r.0.1 r.1
