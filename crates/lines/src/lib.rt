@@ -1,5 +1,6 @@
 // The lines of the program `report`, as bytes in a lent buffer: docs/RULES.md, "The program `report`".
 #![tactic(auto)]
+
 ghost use Rattle.std.specs.Prelude.{◌≡◌, [], ◌∷◌, ◌+◌, ◌*◌, ◌≤◌, min, length, get_or, take};
 ghost use Rattle.rules.specs.Numbers.{name_count};
 ghost use Rattle.rules.specs.Names.{empty};

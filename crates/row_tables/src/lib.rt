@@ -1,5 +1,6 @@
 // Tables with an entry for each row of a sheet, each made by one pass upward, so that what is asked of a row many times is found once.
 #![tactic(auto)]
+
 pub mod faults; // what is wrong with a row that stands by value
 pub mod leads; // the struct item to which a row leads
 pub mod lifetimes; // the rows in which `FindLifetimeMut` finds something

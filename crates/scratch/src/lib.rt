@@ -1,5 +1,6 @@
 // The layout of the scratch: the collected rows as pairs from byte 0 on, and behind them a mark for each row of the sheet, one bit each.
 #![tactic(auto)]
+
 ghost use Rattle.std.specs.Prelude.{◌≡◌, [], ◌∷◌, ◌++◌, ◌*◌, ◌<◌, ◌≤◌, length};
 ghost use Rattle.rules.specs.Numbers.{most_rows, scratch_size};
 ghost use Rattle.rules.specs.Format.{pair_at};

@@ -1,6 +1,7 @@
 // Windows: of a report's records those from a number on, as many as have room, and the places of a list that they go to. The arithmetic of it, over numbers
 // alone: an answer is not handed on for its total.
 #![tactic(auto)]
+
 ghost use Rattle.std.specs.Prelude.{◌≡◌, ◌+◌, ◌-◌, ◌/◌};
 ghost use Rattle.rules.specs.Numbers.{record_size};
 ghost use Rattle.errors.specs.Records.{record_in};

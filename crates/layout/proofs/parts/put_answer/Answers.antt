@@ -1,0 +1,10 @@
+-- `layout::parts::put_answer` stores the answer's three parts one after another.
+-- Assumes nothing.
+use borrow.Author.Rules.{rules}
+use Rattle.layout.specs.Layout.{answer_bytes}
+use Rattle.errors.proofs.Stores.{also}
+use Rattle.layout.proofs.parts.put_answer.Goals as goal
+
+pub returns : goal.returns
+unfolding answer_bytes
+returns c = also (also c.put_header.ensures c.put_names.ensures) c.put_structs.ensures

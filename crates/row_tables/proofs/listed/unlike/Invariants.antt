@@ -1,0 +1,23 @@
+-- `unlike` meets its contract: from the last entry down, the word of the entries from k on; it has no more bits than there are entries, so nothing is lost.
+-- Assumes nothing.
+use Prim.Native.Nat.{ℕ, ◌+◌, ◌-◌, ◌≤◌, ◌<◌, ◌^◌}
+use mathlib.Core.Path.{◌≡◌}
+use mathlib.Core.Bool.{Bool, not}
+use lib.Dec.{eqb}
+use native.Mathlib.Omega.{arith}
+use lib.Pow.{pow_mono}
+use borrow.Author.Rules.{rules}
+use Rattle.laws.specs.Word.{word_of}
+use Rattle.laws.proofs.Base.Words.{word_lt, word-down, bit_le}
+use Rattle.row_tables.specs.Listed.{unlike_at}
+use Rattle.row_tables.proofs.listed.unlike.Given as goal
+
+-- a word of fewer than 64 entries can be doubled
+pub short : (p : ℕ → Bool) (n k word : ℕ) → 0 < k → k ≤ n → n ≤ 64 → word ≡ word_of p k (n - k) → word < 9223372036854775808
+short p n k word l h f e = omega (arith, e, word_lt p k (n - k), pow_mono {i = n - k} {j = 63} (omega arith))
+
+abbrev pub invariant-loop-k : goal.invariant-loop-k
+invariant-loop-k l = (l.k ≤ l.n) × (l.n ≤ 64) × (l.word ≡ word_of (unlike_at l.s l.table l.at l.plain) l.k (l.n - l.k))
+
+abbrev pub decreases-loop-k : goal.decreases-loop-k
+decreases-loop-k l = l.k

@@ -1,0 +1,20 @@
+-- `row_tables::wants::want` meets its contract: each test that the code makes is that of the definition.
+-- Assumes nothing.
+use borrow.Author.Rules.{rules}
+use mathlib.Core.Path.{sym, ap, ◌∙◌}
+use borrow.Author.Tests.{not-true, not-false}
+use Rattle.row_tables.specs.Tables.{one_of}
+use Rattle.row_tables.proofs.WantLaws.{want-not, want-in, want-out}
+use Rattle.row_tables.proofs.wants.want.Goals as goal
+
+pub returns-then-not-is : goal.returns-then-not-is
+returns-then-not-is c = want-not c.args.s.now _ c.args.r (sym c.is.ensures ∙ not-true _ c.if-not-is.true-raw)
+
+pub returns-then-is_extern : goal.returns-then-is_extern
+returns-then-is_extern c =
+    ap one_of c.row_name-n.ensures
+    ∙ want-in c.args.s.now c.args.names.now c.args.r (sym c.is.ensures ∙ not-false _ c.if-not-is.false-raw)
+    (sym (rw c.row_name-n.ensures at (c.is_extern.ensures c.args.s.now)) ∙ c.if-is_extern.true)
+
+pub returns : goal.returns
+returns c = want-out c.args.s.now _ c.args.r (sym (rw c.row_name-n.ensures at (c.is_extern.ensures c.args.s.now)) ∙ c.if-is_extern.false)
