@@ -1,5 +1,6 @@
 // The search for improper structs: the `retain` loop at the end of `Types::collect`, over the looks of rows (row_tables).
 #![tactic(auto)]
+
 ghost use Rattle.std.specs.Prelude.{◌≡◌};
 ghost use Rattle.rules.specs.Improper.{hits};
 ghost use Rattle.row_tables.specs.Tables.{look_of};

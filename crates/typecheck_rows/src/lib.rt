@@ -1,4 +1,5 @@
 // The collected rows of a sheet: the first `match` of `do_typecheck` (check.rs), messages 3 to 26.
 #![tactic(auto)]
+
 pub mod rows; // the other kinds, and the `match` over all kinds
 pub mod targets; // what Box, Vec, the smart pointers and the C++ vector may hold

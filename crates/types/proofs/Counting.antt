@@ -142,20 +142,20 @@ module _ (s w : List ℕ) (i : ℕ) {k : ℕ} (is_kind : k ≡ item_kind s i) wh
     no_struct : eqb (item_kind s i) Struct ≡ false
     no_struct = ne_eqb (item_kind s i) Struct (λ q. other (is_kind ∙ q))
 
-    is_function : function ≡ is_function s i
+    is_function_lem : function ≡ is_function s i
     unfolding is_function
-    is_function = rw is_kind at test
+    is_function_lem = rw is_kind at test
 
     pub item-none : function ≡ false → Tallied w (of_item s w i) w
     unfolding reasons_of_item item_is if◌then◌else◌
-    item-none h = rw (no_struct, sym is_function ∙ h) tally-none
+    item-none h = rw (no_struct, sym is_function_lem ∙ h) tally-none
 
     pub item-function : function ≡ true → {at x : ℕ} {u v : List ℕ} → at ≡ return_place s i → x ≡ pair_at s at → Tallied w (listed s w (at + 2)) u
         → Tallied u (of_return s u x) v → Tallied w (of_item s w i) v
     unfolding reasons_of_item item_is arg_count arg has_return return if◌then◌else◌
     item-function h {x = x} e q p o =
         let o' = tally-by s (λ f. if not (eqb x no_row) then insist s f x else []) p o in
-        rw (no_struct, sym is_function ∙ h, ← e, ← q) (tally-then p o')
+        rw (no_struct, sym is_function_lem ∙ h, ← e, ← q) (tally-then p o')
 
 -- ## No reasons at all
 

@@ -16,7 +16,7 @@ use Rattle.rules.specs.Types.{is_struct, is_enum, is_cxx}
 use Rattle.names.specs.Known.{type_column, column_count, entry_at, names_in, tabled}
 use Rattle.names.proofs.Columns.{has-is}
 use Rattle.types.specs.Named.{Item, enters_column, KnownType, of_self, enters_keys}
-use Rattle.types.proofs.Naming.{is-type, is_function, set_is}
+use Rattle.types.proofs.Naming.{is-type, is_function_lem, set_is}
 
 -- ## Types
 
@@ -87,22 +87,22 @@ module _ {s : List ℕ} {i k n : ℕ} (h : Item s i k n) where
 
     pub of_function : {r function : Bool} → type ≡ false → function ≡ function_kind k → function ≡ true → r ≡ duplicate_function s i → r ≡ duplicate s i
     unfolding duplicate if◌then◌else◌
-    of_function e f g q = rw (sym (is-type h is) ∙ e, sym (is_function h f) ∙ g) q
+    of_function e f g q = rw (sym (is-type h is) ∙ e, sym (is_function_lem h f) ∙ g) q
 
     pub of_other : {function : Bool} → type ≡ false → function ≡ function_kind k → function ≡ false → false ≡ duplicate s i
     unfolding duplicate if◌then◌else◌
-    of_other e f g = rw (sym (is-type h is) ∙ e, sym (is_function h f) ∙ g) refl
+    of_other e f g = rw (sym (is-type h is) ∙ e, sym (is_function_lem h f) ∙ g) refl
 
   -- whether the item enters the table of functions
   module _ {function : Bool} (is : function ≡ function_kind k) where
     pub enters_none : function ≡ false → enters_keys s i ≡ false
     unfolding enters_keys
-    enters_none e = rw (sym (is_function h is) ∙ e) refl
+    enters_none e = rw (sym (is_function_lem h is) ∙ e) refl
 
     pub enters-self : {self : Bool} → function ≡ true → self ≡ of_self s i → self ≡ true → enters_keys s i ≡ false
     unfolding enters_keys
-    enters-self e q o = rw (sym (is_function h is) ∙ e, sym q ∙ o) refl
+    enters-self e q o = rw (sym (is_function_lem h is) ∙ e, sym q ∙ o) refl
 
     pub enters-some : {self : Bool} → function ≡ true → self ≡ of_self s i → self ≡ false → enters_keys s i ≡ true
     unfolding enters_keys
-    enters-some e q o = rw (sym (is_function h is) ∙ e, sym q ∙ o) refl
+    enters-some e q o = rw (sym (is_function_lem h is) ∙ e, sym q ∙ o) refl

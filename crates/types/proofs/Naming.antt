@@ -55,9 +55,9 @@ module _ {s : List ℕ} {i k n : ℕ} (h : Item s i k n) where
   unfolding is_type
   is-type e = rw h.kind at e
 
-  pub is_function : {b : Bool} → b ≡ function_kind k → b ≡ is_function s i
+  pub is_function_lem : {b : Bool} → b ≡ function_kind k → b ≡ is_function s i
   unfolding is_function
-  is_function e = rw h.kind at e
+  is_function_lem e = rw h.kind at e
 
   pub few : i < most_items
   few = let f = (sheet-of s h.accepted).few-items in let b = h.below in omega arith

@@ -110,9 +110,9 @@ module _ {s b : List ℕ} {n : ℕ} (i : ℕ) where
 pub is-enum : {k : ℕ} {t : Bool} → t ≡ enum_kind k → t ≡ true → k ≡ Enum
 is-enum {k} q h = eqb-true k Enum (sym q ∙ h)
 
-pub is_function : (s : List ℕ) (i : ℕ) {k : ℕ} {t : Bool} → k ≡ item_kind s i → t ≡ function_kind k → t ≡ true → is_function s i ≡ true
+pub is_function_lem : (s : List ℕ) (i : ℕ) {k : ℕ} {t : Bool} → k ≡ item_kind s i → t ≡ function_kind k → t ≡ true → is_function s i ≡ true
 unfolding is_function
-is_function s i e q h = rw (← e) (sym q ∙ h)
+is_function_lem s i e q h = rw (← e) (sym q ∙ h)
 
 -- ## The whole sheet
 

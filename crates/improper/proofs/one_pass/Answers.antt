@@ -1,0 +1,97 @@
+use Prim.Native.Nat.{ℕ, ◌-◌, ◌≤◌, ◌<◌}
+use mathlib.Core.Path.{◌≡◌, refl, sym, ap, subst, ◌∙◌}
+use mathlib.Core.Bool.{true, false}
+use mathlib.Core.List.{List}
+use native.Mathlib.Omega.{arith}
+use borrow.Author.Rules.{rules}
+use Rattle.rules.specs.declared.NameSet.{NameSet}
+use Rattle.rules.specs.Types.{types_of}
+use Rattle.rules.specs.Improper.{looks_fields, looks_look, hits}
+use Rattle.improper.specs.Post.{Passes}
+use Rattle.improper.proofs.PassTurns.{FieldsOf, fields-none, fields-of}
+use Rattle.improper.proofs.PassTurns.{found_in, found-start, found-on, found-hit, passes_none, passes-had, passes-not, passes-new}
+use Rattle.improper.proofs.Later.{still-out, skipped}
+use Rattle.improper.proofs.one_pass.Goals as goal
+
+pub structs-init : goal.structs-init
+structs-init c = (omega arith, passes_none _ _)
+
+pub overflow_add-n : goal.overflow_add-n
+overflow_add-n c = omega arith
+
+pub structs-smaller-then-contains : goal.structs-smaller-then-contains
+structs-smaller-then-contains c = omega arith
+
+pub structs-preserved-then-contains : goal.structs-preserved-then-contains
+structs-preserved-then-contains c = (omega arith, passes-had _ _ _ _ _ c.structs.invariant.1 (sym c.contains.ensures ∙ c.if-contains.true))
+
+pub skips-requires : goal.skips-requires
+skips-requires c = omega arith
+
+pub structs-smaller-then-skips : goal.structs-smaller-then-skips
+structs-smaller-then-skips c = omega arith
+
+pub structs-preserved-then-skips : goal.structs-preserved-then-skips
+structs-preserved-then-skips c =
+    let not_in = sym c.contains.ensures ∙ c.if-contains.false in
+    let was-out = still-out c.args.s.now _ c.requires.size _ _ c.structs.n c.structs.invariant.0 c.structs.invariant.1 c.structs.n not_in in
+    let skip = c.skips.ensures c.if-skips.true in
+    let f = skipped c.args.s.now _ _ _ _ c.structs.n (c.requires.later skip.later) skip (omega arith) was-out in
+    (omega arith, passes-not _ _ _ _ _ c.structs.invariant.1 not_in f)
+
+pub structs-smaller-then-i : goal.structs-smaller-then-i
+structs-smaller-then-i c = omega arith
+
+pub structs-preserved-then-i : goal.structs-preserved-then-i
+structs-preserved-then-i c =
+    let e = fields-none c.args.s.now c.args.names.now c.args.looks.now c.requires.given c.structs.n c.struct_of-i.result (c.struct_of-i.ensures c.args.s.now) c.if-i.true in
+    let f : found_in c.args.s.now c.structs.found.words c.structs.n (looks_fields c.args.s.now (types_of c.args.s.now) c.structs.n) ≡ false = rw e (found-start _ _ _) in
+    (omega arith, passes-not _ _ _ _ _ c.structs.invariant.1 (sym c.contains.ensures ∙ c.if-contains.false) f)
+
+pub loop-k-init : goal.loop-k-init
+loop-k-init c = (refl, refl, omega arith, found-start _ _ _)
+
+pub structs-smaller : goal.structs-smaller
+structs-smaller c = omega arith
+
+pub structs-preserved : goal.structs-preserved
+structs-preserved c =
+    let e : c.loop-k.k ≡ looks_fields (sheet p) (types_of (sheet p)) c.structs.n = omega (arith, (fields p).count, c.loop-k.invariant.2, c.loop-k-test.false) in
+    let f : found_in (sheet p) c.structs.found.words c.structs.n c.loop-k.k ≡ false = rw c.loop-k.invariant.0 at c.loop-k.invariant.3 in
+    (omega arith, rw (c.loop-k.invariant.0, c.loop-k.invariant.1) (passes-not _ _ _ _ _ c.structs.invariant.1 (sym c.contains.ensures ∙ c.if-contains.false) (rw e at f)))
+
+pub entry_within-row-requires : goal.entry_within-row-requires
+entry_within-row-requires c = (fields c.before.before).inside _ c.loop-k-test.true
+
+pub overflow_add-k : goal.overflow_add-k
+overflow_add-k c = omega (arith, (fields c.before.before.before).few, c.loop-k-test.true)
+
+pub bounds-looks-row : goal.bounds-looks-row
+bounds-looks-row c = omega (arith, (fields c.before.before.before).small _ _ c.entry_within-row.ensures c.loop-k-test.true)
+
+pub structs-smaller-then-hits : goal.structs-smaller-then-hits
+structs-smaller-then-hits c = omega arith
+
+pub structs-preserved-then-hits : goal.structs-preserved-then-hits
+structs-preserved-then-hits c =
+    let of = p at in
+    let structs = of.before.before.before.before.before.before.before.before.before.structs in
+    let structs-test = of.before.before.before.before.before.before.before.before.structs-test in
+    let contains = of.before.before.before.before.before.before.before.contains in
+    let if1 = of.before.before.before.before.before.before.if1 in
+    let look = looks_look (sheet of) (types_of (sheet of)) structs.n (k at) in
+    let hit = subst (λ (x : NameSet). hits x.words look ≡ true) c.loop-k.invariant.0 (sym (hit-is at) ∙ c.if-hits.true) in
+    let f = found-hit (sheet of) structs.found.words structs.n (k at) _ (inside at) hit in
+    let passed = passes-new _ _ _ _ _ structs.inv.1 (sym contains.ensures ∙ if1.left) f in
+    (omega (arith, structs-test.taken), rw (c.insert-found.ensures, c.loop-k.invariant.0) passed)
+
+pub loop-k-smaller : goal.loop-k-smaller
+loop-k-smaller c = omega arith
+
+pub loop-k-preserved : goal.loop-k-preserved
+loop-k-preserved c = (c.loop-k.invariant.0, c.loop-k.invariant.1, omega arith, found-on _ _ _ _ c.loop-k.invariant.3 (sym (hit-is c.before) ∙ c.if-hits.false))
+
+pub returns : goal.returns
+returns c =
+    let e : c.structs.n ≡ 256 = omega arith in
+    rw e at c.structs.invariant.1

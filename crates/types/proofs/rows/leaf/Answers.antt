@@ -1,0 +1,7 @@
+-- `types::rows::leaf` meets its contract.
+-- Assumes nothing.
+use borrow.Author.Rules.{rules}
+use Rattle.types.proofs.rows.leaf.Goals as goal
+
+pub returns : goal.returns
+returns c = rw c.or.ensures at c.or-2.ensures

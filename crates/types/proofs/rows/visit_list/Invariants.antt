@@ -1,0 +1,18 @@
+-- `types::rows::visit_list` meets its contract. The invariant: the first j rows of the list were walked.
+-- Assumes nothing.
+use borrow.Author.Rules.{rules}
+use Prim.Native.Nat.{◌≤◌, ◌-◌}
+use mathlib.Core.Path.{◌≡◌, refl, ◌∙◌}
+use native.Mathlib.Omega.{arith}
+use native.Mathlib.Nat.{le_refl}
+use lib.ListN.{length}
+use Rattle.rules.specs.View.{rows}
+use Rattle.types.specs.Walk.{Walks}
+use Rattle.types.proofs.Walking.{held_next, first_rows, to_none, to-more, to_end}
+use Rattle.types.proofs.rows.visit_list.Given as goal
+
+abbrev pub invariant-loop-j : goal.invariant-loop-j
+invariant-loop-j l = (length l.scratch ≡ length l.initial.scratch) × (l.j ≤ l.count) × Walks l.s l.initial.scratch l.scratch l.n (rows l.s) (first_rows l.s l.at l.j) l.m
+
+abbrev pub decreases-loop-j : goal.decreases-loop-j
+decreases-loop-j l = l.count - l.j
