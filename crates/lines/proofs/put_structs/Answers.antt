@@ -17,12 +17,12 @@ put_order-a-requires c =
 
 pub put_tiers-requires : goal.put_tiers-requires
 put_tiers-requires c =
-    let places : length c.args.answer.order ≡ 255 = search (rules, c.type_inv.1.1.0.1.1.1.1.1.1.1.0) in
+    let places : length c.args.answer.order ≡ 255 = search (rules, c.well_formed.1.1.0.1.1.1.1.1.1.1.0) in
     let few : c.args.answer.structs ≤ 255 = search rules in
     (omega arith, search rules)
 
 pub returns : goal.returns
 unfolding structs_text
 returns c =
-    let few : c.args.answer.structs ≤ 255 = search (rules, c.type_inv.1.1.0.1.1.1.1.1.1.0) in
+    let few : c.args.answer.structs ≤ 255 = search (rules, c.well_formed.1.1.0.1.1.1.1.1.1.0) in
     record { put = also c.put_order-a.ensures.put c.put_tiers.ensures.put; upper_bound = omega (arith, c.put_order-a.ensures.upper_bound, c.put_tiers.ensures.upper_bound) }

@@ -6,7 +6,7 @@ use Rattle.lines.proofs.Parts.{if_yes, if_no}
 use Rattle.lines.proofs.lists.put_if.Goals as goal
 
 pub returns-then-yes : goal.returns-then-yes
-returns-then-yes c = (meant c.put_byte.ensures.put (if_yes c.args.yes c.args.n c.if-yes.true), search rules)
+returns-then-yes c = record { put = meant c.put_byte.ensures.put (if_yes c.args.yes c.args.n c.if-yes.true); upper_bound = search rules }
 
 pub returns : goal.returns
 returns c = record { put = meant (none _ _) (if_no c.args.yes c.args.n c.if-yes.false); upper_bound = search rules }

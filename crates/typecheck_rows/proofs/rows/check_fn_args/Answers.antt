@@ -22,7 +22,7 @@ loop-j-preserved c = (
   c.fn_arg_error-e.auto.out ∙ c.loop-j.invariant.0,
   omega arith,
   turn _ _ c.loop-j.invariant.2 (meant-if _ c.fn_arg_error-e.ensures
-      (rw (c.is-pointer.ensures, c.fn_arg.ensures, c.flag1-safe.ensures, c.row_flags.ensures) c.loop-j c.and.ensures)),
+      (rw (c.is-pointer.ensures, c.fn_arg.ensures, c.flag1-safe.ensures, c.row_flags.ensures) at c.and.ensures)),
 )
 
 pub shape_of-out : goal.shape_of-out
