@@ -49,47 +49,54 @@ structs-preserved-then-i c =
     (omega arith, passes-not _ _ _ _ _ c.structs.invariant.1 (sym c.contains.ensures ∙ c.if-contains.false) f)
 
 pub loop-k-init : goal.loop-k-init
-loop-k-init c = (refl, refl, omega arith, found-start _ _ _)
+loop-k-init c = (
+  refl,
+  refl,
+  omega arith,
+  found-start _ _ _,
+  fields-of c.args.s.now c.args.names.now c.args.looks.now c.requires.given c.structs.n c.struct_of-i.result (c.struct_of-i.ensures c.args.s.now)
+      c.if-i.false _ _ c.rest-at.ensures c.pair_at-fields.ensures,
+)
 
 pub structs-smaller : goal.structs-smaller
 structs-smaller c = omega arith
 
 pub structs-preserved : goal.structs-preserved
 structs-preserved c =
-    let e : c.loop-k.k ≡ looks_fields (sheet p) (types_of (sheet p)) c.structs.n = omega (arith, (fields p).count, c.loop-k.invariant.2, c.loop-k-test.false) in
-    let f : found_in (sheet p) c.structs.found.words c.structs.n c.loop-k.k ≡ false = rw c.loop-k.invariant.0 at c.loop-k.invariant.3 in
+    let e : c.loop-k.k ≡ looks_fields c.args.s.now (types_of c.args.s.now) c.structs.n = omega (arith, c.loop-k.invariant.4.count, c.loop-k.invariant.2, c.loop-k-test.false) in
+    let f : found_in c.args.s.now c.structs.found.words c.structs.n c.loop-k.k ≡ false = rw c.loop-k.invariant.0 at c.loop-k.invariant.3 in
     (omega arith, rw (c.loop-k.invariant.0, c.loop-k.invariant.1) (passes-not _ _ _ _ _ c.structs.invariant.1 (sym c.contains.ensures ∙ c.if-contains.false) (rw e at f)))
 
 pub entry_within-row-requires : goal.entry_within-row-requires
-entry_within-row-requires c = (fields c.before.before).inside _ c.loop-k-test.true
+entry_within-row-requires c = c.loop-k.invariant.4.inside _ c.loop-k-test.true
 
 pub overflow_add-k : goal.overflow_add-k
-overflow_add-k c = omega (arith, (fields c.before.before.before).few, c.loop-k-test.true)
+overflow_add-k c = omega (arith, c.loop-k.invariant.4.few, c.loop-k-test.true)
 
 pub bounds-looks-row : goal.bounds-looks-row
-bounds-looks-row c = omega (arith, (fields c.before.before.before).small _ _ c.entry_within-row.ensures c.loop-k-test.true)
+bounds-looks-row c = omega (arith, c.loop-k.invariant.4.small _ _ c.entry_within-row.ensures c.loop-k-test.true)
 
 pub structs-smaller-then-hits : goal.structs-smaller-then-hits
 structs-smaller-then-hits c = omega arith
 
 pub structs-preserved-then-hits : goal.structs-preserved-then-hits
 structs-preserved-then-hits c =
-    let of = p at in
-    let structs = of.before.before.before.before.before.before.before.before.before.structs in
-    let structs-test = of.before.before.before.before.before.before.before.before.structs-test in
-    let contains = of.before.before.before.before.before.before.before.contains in
-    let if1 = of.before.before.before.before.before.before.if1 in
-    let look = looks_look (sheet of) (types_of (sheet of)) structs.n (k at) in
-    let hit = subst (λ (x : NameSet). hits x.words look ≡ true) c.loop-k.invariant.0 (sym (hit-is at) ∙ c.if-hits.true) in
-    let f = found-hit (sheet of) structs.found.words structs.n (k at) _ (inside at) hit in
-    let passed = passes-new _ _ _ _ _ structs.inv.1 (sym contains.ensures ∙ if1.left) f in
-    (omega (arith, structs-test.taken), rw (c.insert-found.ensures, c.loop-k.invariant.0) passed)
+    let s = c.args.s.now in
+    let inside : c.loop-k.k < looks_fields s (types_of s) c.structs.n = omega (arith, c.loop-k.invariant.4.count, c.loop-k-test.true) in
+    let look = looks_look s (types_of s) c.structs.n c.loop-k.k in
+    let hit-is = (c.hits.ensures ∙ ap (hits c.loop-k.found.words) (c.loop-k.invariant.4.look c.loop-k.k _ c.entry_within-row.ensures c.loop-k-test.true)) in
+    let hit = subst (λ (x : NameSet). hits x.words look ≡ true) c.loop-k.invariant.0 (sym hit-is ∙ c.if-hits.true) in
+    let f = found-hit s c.structs.found.words c.structs.n c.loop-k.k _ inside hit in
+    let passed = passes-new _ _ _ _ _ c.structs.invariant.1 (sym c.contains.ensures ∙ c.if-contains.false) f in
+    (omega (arith, c.structs-test.true), rw (c.insert-found.ensures, c.loop-k.invariant.0) passed)
 
 pub loop-k-smaller : goal.loop-k-smaller
 loop-k-smaller c = omega arith
 
 pub loop-k-preserved : goal.loop-k-preserved
-loop-k-preserved c = (c.loop-k.invariant.0, c.loop-k.invariant.1, omega arith, found-on _ _ _ _ c.loop-k.invariant.3 (sym (hit-is c.before) ∙ c.if-hits.false))
+loop-k-preserved c =
+    let hit-is = (c.hits.ensures ∙ ap (hits c.loop-k.found.words) (c.loop-k.invariant.4.look c.loop-k.k _ c.entry_within-row.ensures c.loop-k-test.true)) in
+    (c.loop-k.invariant.0, c.loop-k.invariant.1, omega arith, found-on _ _ _ _ c.loop-k.invariant.3 (sym hit-is ∙ c.if-hits.false), c.loop-k.invariant.4)
 
 pub returns : goal.returns
 returns c =

@@ -1,5 +1,5 @@
--- `improper::one_pass` meets its contract. The invariant over the names: those before n are passed. Over the fields of one: none before k is improper, and the
--- set is as it was. A name that is skipped would not have been found. The measures are what is left of the names, and of the fields.
+-- `improper::one_pass` meets its contract. The invariant over the names: those before n are passed. Over the fields of one: none before k is improper, the
+-- set is as it was, and the fields are those of the name's last struct. A name that is skipped would not have been found. The measures are what is left of the names, and of the fields.
 -- Assumes nothing.
 use Prim.Native.Nat.{ℕ, ◌-◌, ◌≤◌, ◌<◌}
 use mathlib.Core.Path.{◌≡◌, refl, sym, ap, subst, ◌∙◌}
@@ -16,47 +16,8 @@ use Rattle.improper.proofs.PassTurns.{found_in, found-start, found-on, found-hit
 use Rattle.improper.proofs.Later.{still-out, skipped}
 use Rattle.improper.proofs.one_pass.Given as goal
 
--- ## The fields, where their number was read
-
-module _ (c : tie.After-pair-at invariant-loop decreases-loop invariant-structs decreases-structs) where
-  abbrev sheet : List ℕ
-  sheet = c.before.before.before.before.before.before.before.before.before.before.before.args.s.now
-
-  abbrev names : List ℕ
-  names = c.before.before.before.before.before.before.before.before.before.before.before.args.names.now
-
-  abbrev looks : List ℕ
-  looks = c.before.before.before.before.before.before.before.before.before.before.before.args.looks.now
-
-  abbrev name : ℕ
-  name = c.before.before.before.before.before.before.before.before.before.structs.n
-
-  fields : FieldsOf sheet looks name c.before.rest.result c.pair-at.result
-  fields =
-      let given = c.before.before.before.before.before.before.before.before.before.before.before.requires.given in
-      let item = c.before.before.before.struct-of in
-      let some = c.before.before.if3.false in
-      fields-of sheet names looks given name item.result (item.ensures sheet) some _ _ c.before.rest.ensures c.pair-at.ensures
-
--- whether field k hits
-module _ (c : tie.After-hits invariant-loop decreases-loop invariant-structs decreases-structs) where
-  abbrev p : tie.After-pair-at invariant-loop decreases-loop invariant-structs decreases-structs
-  p = c.before.before.before.before.before
-
-  abbrev k : ℕ
-  k = c.before.before.before.before.loop.k
-
-  abbrev words : List ℕ
-  words = c.before.before.before.before.loop.found.words
-
-  inside : k < looks_fields (sheet p) (types_of (sheet p)) (name p)
-  inside = omega (arith, (fields p).count, c.before.before.before.loop-test.true)
-
-  hit-is : c.hits.result ≡ hits words (looks_look (sheet p) (types_of (sheet p)) (name p) k)
-  hit-is = c.hits.ensures ∙ ap (hits words) ((fields p).look k _ c.before.before.entry-within.ensures c.before.before.before.loop-test.true)
-
 abbrev pub invariant-loop-k : goal.invariant-loop-k
-invariant-loop-k l = (l.found ≡ l.initial.found) × (l.new ≡ l.initial.new) × (l.k ≤ l.fields) × (found_in l.s l.found.words l.name l.k ≡ false)
+invariant-loop-k l = (l.found ≡ l.initial.found) × (l.new ≡ l.initial.new) × (l.k ≤ l.fields) × (found_in l.s l.found.words l.name l.k ≡ false) × FieldsOf l.s l.looks l.name l.at l.fields
 
 abbrev pub decreases-loop-k : goal.decreases-loop-k
 decreases-loop-k l = l.fields - l.k

@@ -31,7 +31,7 @@ pub loop-n-smaller : goal.loop-n-smaller
 loop-n-smaller c = omega arith
 
 pub loop-n-preserved : goal.loop-n-preserved
-loop-n-preserved c = (omega arith, below_on _ _ _ _ c.loop-n.invariant.1 _ (omega arith) c.Targets-of.ensures)
+loop-n-preserved c = (omega arith, below_on _ _ _ _ c.loop-n.invariant.1 _ (omega arith) c.targets_of-words.ensures)
 
 pub returns : goal.returns
 returns c =

@@ -1,5 +1,5 @@
--- `improper::targets::targets_of` meets its contract. The invariant: the set has each name that a field before k leads to. The measure is what is left of the
--- fields.
+-- `improper::targets::targets_of` meets its contract. The invariant: the set has each name that a field before k leads to, and the fields
+-- are those of the name's last struct. The measure is what is left of them.
 -- Assumes nothing.
 use Prim.Native.Nat.{ℕ, ◌+◌, ◌-◌, ◌≤◌}
 use mathlib.Core.Path.{◌≡◌}
@@ -12,30 +12,8 @@ use Rattle.improper.proofs.PassTurns.{FieldsOf, fields-none, fields-of}
 use Rattle.improper.proofs.TargetLaws.{leads-on, took-name, took-none}
 use Rattle.improper.proofs.targets.targets_of.Given as goal
 
--- ## The fields, where their number was read
-
-module _ (c : tie.After-pair-at invariant-loop decreases-loop) where
-  abbrev sheet : List ℕ
-  sheet = c.before.before.before.before.before.args.s.now
-
-  abbrev names : List ℕ
-  names = c.before.before.before.before.before.args.names.now
-
-  abbrev looks : List ℕ
-  looks = c.before.before.before.before.before.args.looks.now
-
-  abbrev name : ℕ
-  name = c.before.before.before.before.before.args.n
-
-  fields : FieldsOf sheet looks name c.before.rest.result c.pair-at.result
-  fields =
-      let given = c.before.before.before.before.before.requires in
-      let item = c.before.before.before.struct-of in
-      let some = c.before.before.if1.false in
-      fields-of sheet names looks given name item.result (item.ensures sheet) some _ _ c.before.rest.ensures c.pair-at.ensures
-
 abbrev pub invariant-loop-k : goal.invariant-loop-k
-invariant-loop-k l = (length l.words ≡ 4) × (l.k ≤ l.fields) × LeadsTo l.s l.n l.k l.words
+invariant-loop-k l = (length l.words ≡ 4) × (l.k ≤ l.fields) × LeadsTo l.s l.n l.k l.words × FieldsOf l.s l.looks l.n l.at l.fields
 
 abbrev pub decreases-loop-k : goal.decreases-loop-k
 decreases-loop-k l = l.fields - l.k
