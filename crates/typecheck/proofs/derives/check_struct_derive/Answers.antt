@@ -1,0 +1,7 @@
+-- `typecheck::derives::check_struct_derive` meets its contract: its parts report one after the other. Assumes nothing.
+use borrow.Author.Rules.{rules}
+use Rattle.errors.specs.Sink.{also, meant-if}
+use Rattle.typecheck.proofs.derives.check_struct_derive.Goals as goal
+
+pub returns : goal.returns
+returns c = also (meant-if _ c.derive_error-cx.ensures c.is_bit-bits.ensures) c.derive_error.ensures

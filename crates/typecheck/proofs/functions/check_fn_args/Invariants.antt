@@ -1,0 +1,18 @@
+-- `typecheck::functions::check_fn_args` meets its contract: the arguments before j have given their messages. Assumes nothing.
+use borrow.Author.Rules.{rules}
+use Prim.Native.Nat.{◌≤◌, ◌-◌}
+use mathlib.Core.Path.{◌≡◌, refl, ◌∙◌}
+use native.Mathlib.Omega.{arith}
+use lib.ListN.{length}
+use Rattle.rules.specs.Base.{over}
+use Rattle.rules.specs.View.{arg_count, arg}
+use Rattle.errors.specs.Sink.{Reported, start, turn, whole}
+use Rattle.typecheck.specs.Tests.{function_of, function_arg, function_args}
+use Rattle.typecheck.proofs.functions.check_fn_args.Given as goal
+
+abbrev pub invariant-loop-j : goal.invariant-loop-j
+invariant-loop-j l = (length l.out ≡ length l.initial.out) × (l.j ≤ l.n) ×
+    Reported l.initial.out l.initial.e (over l.j (λ k. function_arg l.s l.faults (function_of l.s l.i) k (arg l.s l.i k))) l.e l.out
+
+abbrev pub decreases-loop-j : goal.decreases-loop-j
+decreases-loop-j l = l.n - l.j

@@ -1,0 +1,6 @@
+-- `typecheck::impls::is_generic` meets its contract: what its calls ensure, put together. Assumes nothing.
+use borrow.Author.Rules.{rules}
+use Rattle.typecheck.proofs.impls.is_generic.Goals as goal
+
+pub returns : goal.returns
+returns c = rw c.kind-k.ensures at c.and.ensures
