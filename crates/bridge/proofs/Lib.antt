@@ -1,4 +1,1 @@
-pub mod Locals
-pub mod Buffer
-pub mod Spelled
 pub mod Stored
