@@ -6,16 +6,14 @@ use mathlib.Core.Path.{◌≡◌, refl, sym, ap, ◌∙◌}
 use mathlib.Core.Bool.{Bool, true, false, not}
 use mathlib.Core.List.{List}
 use native.Mathlib.Omega.{arith}
-use borrow.Author.Tests.{eqb-true, eqb-false, eq-eqb}
+use borrow.Author.Tests.{eqb-true, eq-eqb}
 use lib.Count.{count_trailing_zeros}
 use lib.Dec.{eqb}
-use lib.ListN.{get_or}
 use Rattle.rules.specs.Numbers.{no_item}
 use Rattle.rules.specs.Graph.{Graph}
-use Rattle.rules.specs.View.{field_count, rest, field, entry}
+use Rattle.rules.specs.View.{field_count, rest, entry}
 use Rattle.rules.specs.Rule3.{IsStruct}
 use Rattle.laws.specs.Word.{word_of}
-use Rattle.laws.specs.RowTable.{lead_by}
 use Rattle.laws.proofs.Base.Tests.{never}
 use Rattle.laws.proofs.Base.Words.{NextOf, next_of, word_none, word_same}
 use Rattle.row_tables.specs.Listed.{unlike_at}

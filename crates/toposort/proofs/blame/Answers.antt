@@ -1,6 +1,5 @@
 -- `toposort::blame` meets its contract: what is reported under a test that holds is reported.
 -- Assumes nothing.
-use borrow.Author.Rules.{rules}
 use Rattle.rules.specs.Diagnostics.{when}
 use Rattle.toposort.proofs.blame.Goals as goal
 

@@ -1,6 +1,5 @@
 -- `toposort::is_struct` meets its contract: the two tests are those of the graph.
 -- Assumes nothing.
-use borrow.Author.Rules.{rules}
 use Rattle.toposort.proofs.is_struct.Goals as goal
 
 pub returns : goal.returns

@@ -1,7 +1,6 @@
 -- `toposort::leads_to` meets its contract: each field of a struct item is a row of the table.
 -- Assumes nothing.
 use mathlib.Core.Path.{refl, ◌∙◌}
-use borrow.Author.Rules.{rules}
 use Rattle.toposort.proofs.Edges.{led-at}
 use Rattle.toposort.proofs.leads_to.Goals as goal
 

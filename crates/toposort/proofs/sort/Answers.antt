@@ -1,13 +1,9 @@
-use Prim.Native.Nat.{◌-◌}
-use mathlib.Core.Path.{◌≡◌, refl, sym, ◌∙◌}
-use lib.ListN.{length}
+use mathlib.Core.Path.{refl, sym, ◌∙◌}
 use native.Mathlib.Omega.{arith}
-use borrow.Author.Rules.{rules}
-use Rattle.toposort.specs.Leads.{table_graph}
 use Rattle.laws.proofs.Base.Tests.{holds}
 use Rattle.laws.proofs.Names.LastItems.{struct_is}
 use Rattle.toposort.proofs.Edges.{bounded}
-use Rattle.toposort.proofs.Sorting.{Sorting, sorting-none, sorting-room, sorting-struct, sorting-other, sorted}
+use Rattle.toposort.proofs.Sorting.{sorting-none, sorting-room, sorting-struct, sorting-other, sorted}
 use Rattle.toposort.proofs.sort.Goals as goal
 
 pub loop-i-init : goal.loop-i-init
@@ -20,7 +16,7 @@ pub visit-w-requires : goal.visit-w-requires
 visit-w-requires c =
     let st = (struct_is c.args.s.now c.loop-i.i).0 (holds (sym c.is_struct.ensures ∙ c.if-is_struct.true)) in
     let room = sorting-room (bounded c.requires) c.loop-i.invariant.1 c.loop-i-test.true in
-    (c.requires, (st, room))
+    record { led = c.requires; fact = (st, room) }
 
 pub loop-i-smaller-then-is_struct : goal.loop-i-smaller-then-is_struct
 loop-i-smaller-then-is_struct c = omega arith

@@ -1,15 +1,10 @@
 -- `toposort::sort` meets its contract. The invariant: the items before i are walked. The measure is what is left of the 255 items.
 -- Assumes nothing.
 use Prim.Native.Nat.{◌-◌}
-use mathlib.Core.Path.{◌≡◌, refl, sym, ◌∙◌}
+use mathlib.Core.Path.{◌≡◌}
 use lib.ListN.{length}
-use native.Mathlib.Omega.{arith}
-use borrow.Author.Rules.{rules}
 use Rattle.toposort.specs.Leads.{table_graph}
-use Rattle.laws.proofs.Base.Tests.{holds}
-use Rattle.laws.proofs.Names.LastItems.{struct_is}
-use Rattle.toposort.proofs.Edges.{bounded}
-use Rattle.toposort.proofs.Sorting.{Sorting, sorting-none, sorting-room, sorting-struct, sorting-other, sorted}
+use Rattle.toposort.proofs.Sorting.{Sorting}
 use Rattle.toposort.proofs.sort.Given as goal
 
 abbrev pub invariant-loop-i : goal.invariant-loop-i

@@ -1,13 +1,11 @@
-use Prim.Native.Nat.{ℕ, ◌-◌, ◌<◌, ◌≤◌}
+use Prim.Native.Nat.{◌<◌}
 use mathlib.Core.Path.{◌≡◌, refl, ap, ◌∙◌}
-use mathlib.Core.List.{List}
 use lib.ListN.{get_or}
 use native.Mathlib.Omega.{arith}
-use borrow.Author.Rules.{rules}
 use Rattle.rules.specs.View.{field_count}
 use Rattle.rules.specs.Tiers.{largest}
 use Rattle.laws.specs.TierPass.{up}
-use Rattle.toposort.specs.Leads.{table_graph, Ups}
+use Rattle.toposort.specs.Leads.{table_graph}
 use Rattle.row_tables.proofs.ListLaws.{field_in}
 use Rattle.toposort.proofs.Edges.{counted_is, leads-below}
 use Rattle.toposort.proofs.TierTurns.{largest-turn}

@@ -1,18 +1,13 @@
 -- `toposort::tier_from` meets its contract. The invariant: `best` is the largest that the fields before j give. The measure is what is left of the fields.
 -- Assumes nothing.
-use Prim.Native.Nat.{ℕ, ◌-◌, ◌<◌, ◌≤◌}
-use mathlib.Core.Path.{◌≡◌, refl, ap, ◌∙◌}
+use Prim.Native.Nat.{ℕ, ◌-◌, ◌≤◌}
+use mathlib.Core.Path.{◌≡◌}
 use mathlib.Core.List.{List}
 use lib.ListN.{get_or}
-use native.Mathlib.Omega.{arith}
-use borrow.Author.Rules.{rules}
 use Rattle.rules.specs.View.{field_count}
 use Rattle.rules.specs.Tiers.{largest}
 use Rattle.laws.specs.TierPass.{up}
 use Rattle.toposort.specs.Leads.{table_graph, Ups}
-use Rattle.row_tables.proofs.ListLaws.{field_in}
-use Rattle.toposort.proofs.Edges.{counted_is, leads-below}
-use Rattle.toposort.proofs.TierTurns.{largest-turn}
 use Rattle.toposort.proofs.tier_from.Given as goal
 
 abbrev pub invariant-loop-j : goal.invariant-loop-j

@@ -1,11 +1,10 @@
-use Prim.Native.Nat.{◌-◌, ◌≤◌}
-use mathlib.Core.Path.{◌≡◌, ap, ◌∙◌}
-use lib.ListN.{length, length-set, replicate}
+use mathlib.Core.Path.{ap, ◌∙◌}
+use lib.ListN.{length, length-set}
 use native.Mathlib.Omega.{arith}
 use borrow.Author.Rules.{rules}
-use Rattle.laws.specs.TierPass.{start_to, tiers_to}
+use Rattle.laws.specs.TierPass.{tiers_to}
 use Rattle.laws.proofs.Graph.TierPass.{started}
-use Rattle.toposort.specs.Leads.{table_graph, Ups}
+use Rattle.toposort.specs.Leads.{table_graph}
 use Rattle.toposort.proofs.TierTurns.{tiers-on, ups-set, order-fits, place-struct, place-below, tiers-end}
 use Rattle.toposort.proofs.tiers.Goals as goal
 

@@ -2,14 +2,10 @@
 -- measure is what is left of the places.
 -- Assumes nothing.
 use Prim.Native.Nat.{◌-◌, ◌≤◌}
-use mathlib.Core.Path.{◌≡◌, ap, ◌∙◌}
-use lib.ListN.{length, length-set, replicate}
-use native.Mathlib.Omega.{arith}
-use borrow.Author.Rules.{rules}
+use mathlib.Core.Path.{◌≡◌}
+use lib.ListN.{length, replicate}
 use Rattle.laws.specs.TierPass.{start_to, tiers_to}
-use Rattle.laws.proofs.Graph.TierPass.{started}
 use Rattle.toposort.specs.Leads.{table_graph, Ups}
-use Rattle.toposort.proofs.TierTurns.{tiers-on, ups-set, order-fits, place-struct, place-below, tiers-end}
 use Rattle.toposort.proofs.tiers.Given as goal
 
 abbrev pub invariant-loop-p : goal.invariant-loop-p

@@ -1,14 +1,11 @@
 -- `toposort::unknown_tiers` meets its contract. The invariant: the items before i are entered. The measure is what is left of the 255 items.
 -- Assumes nothing.
 use Prim.Native.Nat.{ℕ, ◌-◌, ◌≤◌}
-use mathlib.Core.Path.{◌≡◌, refl, sym, ap, ◌∙◌}
+use mathlib.Core.Path.{◌≡◌}
 use mathlib.Core.List.{List}
 use lib.ListN.{replicate}
-use native.Mathlib.Omega.{arith}
-use borrow.Author.Rules.{rules}
 use Rattle.laws.specs.TierPass.{start_to}
 use Rattle.toposort.specs.Leads.{table_graph}
-use Rattle.toposort.proofs.TierTurns.{start-struct, start-other}
 use Rattle.toposort.proofs.unknown_tiers.Given as goal
 
 abbrev pub invariant-loop-i : goal.invariant-loop-i

@@ -1,9 +1,7 @@
-use Prim.Native.Nat.{ℕ, ◌-◌, ◌≤◌}
-use mathlib.Core.Path.{◌≡◌, ◌∙◌}
-use lib.ListN.{length, length-set, length-replicate}
+use Prim.Native.Nat.{ℕ}
+use mathlib.Core.Path.{◌∙◌}
+use lib.ListN.{length-set, length-replicate}
 use native.Mathlib.Omega.{arith}
-use borrow.Author.Rules.{rules}
-use Rattle.toposort.specs.Leads.{Ups}
 use Rattle.toposort.proofs.TierTurns.{ups-none, ups-on, ups-end}
 use Rattle.toposort.proofs.ups_of.Goals as goal
 

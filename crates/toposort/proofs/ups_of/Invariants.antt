@@ -1,12 +1,9 @@
 -- `toposort::ups_of` meets its contract. The invariant: the items before i are entered. The measure is what is left of the 255 items.
 -- Assumes nothing.
-use Prim.Native.Nat.{ℕ, ◌-◌, ◌≤◌}
-use mathlib.Core.Path.{◌≡◌, ◌∙◌}
-use lib.ListN.{length, length-set, length-replicate}
-use native.Mathlib.Omega.{arith}
-use borrow.Author.Rules.{rules}
+use Prim.Native.Nat.{◌-◌, ◌≤◌}
+use mathlib.Core.Path.{◌≡◌}
+use lib.ListN.{length}
 use Rattle.toposort.specs.Leads.{Ups}
-use Rattle.toposort.proofs.TierTurns.{ups-none, ups-on, ups-end}
 use Rattle.toposort.proofs.ups_of.Given as goal
 
 abbrev pub invariant-loop-i : goal.invariant-loop-i
