@@ -1,6 +1,5 @@
 -- `types::duplicates::duplicate_type` meets its contract: the rule, test by test, asked of the table as of item i.
 -- Assumes nothing.
-use borrow.Author.Rules.{rules}
 use borrow.Author.Tests.{not-true, not-false}
 use Rattle.types.proofs.Duplicated.{type-new, type-shared, type-cxx, type-other}
 use Rattle.types.proofs.duplicates.duplicate_type.Goals as goal

@@ -1,6 +1,5 @@
 -- `types::duplicates::enter_function` meets its contract.
 -- Assumes nothing.
-use borrow.Author.Rules.{rules}
 use mathlib.Core.Path.{sym, ◌∙◌}
 use borrow.Author.Tests.{not-true, not-false}
 use Rattle.types.proofs.Keys.{key-small, keys_none, keys-more}

@@ -1,6 +1,5 @@
 -- `types::reasons::insist_item` meets its contract, by kinds of items.
 -- Assumes nothing.
-use borrow.Author.Rules.{rules}
 use native.Mathlib.Omega.{arith}
 use borrow.Author.Tests.{not-true, not-false}
 use Rattle.types.proofs.Counting.{item-fields, item-none, item-function, wants-same}

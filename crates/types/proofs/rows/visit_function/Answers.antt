@@ -1,6 +1,5 @@
 -- `types::rows::visit_function` meets its contract.
 -- Assumes nothing.
-use borrow.Author.Rules.{rules}
 use native.Mathlib.Omega.{arith}
 use native.Mathlib.Nat.{le_refl}
 use Rattle.types.proofs.Walking.{held_next}
