@@ -13,7 +13,6 @@ use lib.Dec.{ltb}
 use borrow.Author.Tests.{lt-ltb}
 use Rattle.rules.specs.Numbers.{name_count, struct_set, enum_set, cxx_set, rust_set, alias_set, untrusted_set, required_trivial_set}
 use Rattle.rules.specs.Base.{if◌then◌else◌, over}
-use Rattle.rules.specs.Count.{count}
 use Rattle.rules.specs.Format.{pair_at, Accepted}
 use Rattle.rules.specs.View.{items}
 use Rattle.rules.specs.Collect.{names_to, last_to}

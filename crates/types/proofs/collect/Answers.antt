@@ -1,6 +1,5 @@
 -- `types::collect` meets its contract: each part leaves what the rules say of the sheet.
 -- Assumes nothing.
-use borrow.Author.Rules.{rules}
 use Rattle.types.proofs.Whole.{held_none, named_start, whole}
 use Rattle.types.proofs.collect.Goals as goal
 

@@ -1,6 +1,5 @@
 -- `types::duplicates::duplicate` meets its contract.
 -- Assumes nothing.
-use borrow.Author.Rules.{rules}
 use mathlib.Core.Path.{sym, ◌∙◌}
 use Rattle.types.proofs.Naming.{is_function_lem}
 use Rattle.types.proofs.Duplicated.{of-type, of_function, of_other}

@@ -1,6 +1,5 @@
 -- `types::duplicates::duplicate_function` meets its contract: the table of functions says what the rules say of all functions before.
 -- Assumes nothing.
-use borrow.Author.Rules.{rules}
 use mathlib.Core.Path.{sym, ◌∙◌}
 use Rattle.types.proofs.Keys.{key-small, function-self, function-known}
 use Rattle.types.proofs.duplicates.duplicate_function.Goals as goal

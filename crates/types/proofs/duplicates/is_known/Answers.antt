@@ -1,6 +1,5 @@
 -- `types::duplicates::is_known` meets its contract: a shift and a remainder are `bit_of`.
 -- Assumes nothing.
-use borrow.Author.Rules.{rules}
 use mathlib.Core.Path.{refl}
 use Rattle.rules.specs.Names.{◌∋◌, bit_of}
 use Rattle.types.proofs.duplicates.is_known.Goals as goal

@@ -1,6 +1,5 @@
 -- `types::duplicates::key` meets its contract.
 -- Assumes nothing.
-use borrow.Author.Rules.{rules}
 use Rattle.types.specs.Named.{key_of}
 use Rattle.types.proofs.duplicates.key.Goals as goal
 

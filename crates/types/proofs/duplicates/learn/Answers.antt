@@ -1,6 +1,5 @@
 -- `types::duplicates::learn` meets its contract: 1 moved up by k places is the k-th power of 2.
 -- Assumes nothing.
-use borrow.Author.Rules.{rules}
 use Prim.Native.Nat.{◌%◌}
 use native.Mathlib.Omega.{arith}
 use Rattle.rules.specs.Names.{add}

@@ -1,6 +1,5 @@
 -- `types::duplicates::of_self` meets its contract.
 -- Assumes nothing.
-use borrow.Author.Rules.{rules}
 use Rattle.types.specs.Named.{of_self}
 use Rattle.types.proofs.duplicates.of_self.Goals as goal
 

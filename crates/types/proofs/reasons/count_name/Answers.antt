@@ -1,6 +1,5 @@
 -- `types::reasons::count_name` meets its contract: what is no name has no entry.
 -- Assumes nothing.
-use borrow.Author.Rules.{rules}
 use mathlib.Core.List.{[]}
 use Rattle.types.proofs.Counting.{name-counted}
 use Rattle.types.proofs.reasons.count_name.Goals as goal

@@ -1,6 +1,5 @@
 -- `types::reasons::insist` meets its contract: the table has the name to which the row gives a reason, or none.
 -- Assumes nothing.
-use borrow.Author.Rules.{rules}
 use Rattle.types.proofs.reasons.insist.Goals as goal
 
 pub wanted-n-requires : goal.wanted-n-requires

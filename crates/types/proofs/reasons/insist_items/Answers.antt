@@ -1,9 +1,7 @@
-use Prim.Native.Nat.{◌≤◌, ◌-◌}
 use mathlib.Core.Path.{◌≡◌, ◌∙◌}
 use native.Mathlib.Omega.{arith}
-use Rattle.rules.specs.Base.{over}
 use Rattle.rules.specs.Trivial.{reasons_of_item}
-use Rattle.types.specs.Reasons.{Tallied, of_item}
+use Rattle.types.specs.Reasons.{of_item}
 use Rattle.types.proofs.Counting.{tally-by, wants-same, over_none, over-more, over-end}
 use Rattle.types.proofs.reasons.insist_items.Goals as goal
 
@@ -21,7 +19,7 @@ insist_item-requires c = record {
 }
 
 pub overflow_add-i : goal.overflow_add-i
-overflow_add-i c = omega (arith, c.loop-i-test.true, c.items-count.type-inv)
+overflow_add-i c = omega (arith, c.loop-i-test.true, c.items-count.type_inv)
 
 pub loop-i-smaller : goal.loop-i-smaller
 loop-i-smaller c = omega (arith, c.loop-i-test.true)

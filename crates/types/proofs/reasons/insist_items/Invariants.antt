@@ -1,12 +1,8 @@
 -- `types::reasons::insist_items` meets its contract. The invariant: the reasons of the first i items are counted.
 -- Assumes nothing.
 use Prim.Native.Nat.{◌≤◌, ◌-◌}
-use mathlib.Core.Path.{◌≡◌, ◌∙◌}
-use native.Mathlib.Omega.{arith}
 use Rattle.rules.specs.Base.{over}
-use Rattle.rules.specs.Trivial.{reasons_of_item}
 use Rattle.types.specs.Reasons.{Tallied, of_item}
-use Rattle.types.proofs.Counting.{tally-by, wants-same, over_none, over-more, over-end}
 use Rattle.types.proofs.reasons.insist_items.Given as goal
 
 abbrev pub invariant-loop-i : goal.invariant-loop-i

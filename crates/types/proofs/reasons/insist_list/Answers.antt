@@ -1,10 +1,8 @@
-use Prim.Native.Nat.{◌≤◌, ◌-◌}
 use mathlib.Core.Path.{◌≡◌, ◌∙◌}
 use native.Mathlib.Omega.{arith}
-use Rattle.rules.specs.Base.{over}
 use Rattle.rules.specs.View.{entry}
 use Rattle.rules.specs.Trivial.{insist}
-use Rattle.types.specs.Reasons.{Tallied, of_plain}
+use Rattle.types.specs.Reasons.{of_plain}
 use Rattle.types.proofs.Counting.{tally-by, wants-same, over_none, over-more, over-end}
 use Rattle.types.proofs.reasons.insist_list.Goals as goal
 
@@ -21,7 +19,7 @@ pub insist-requires : goal.insist-requires
 insist-requires c = wants-same c.args.s.now c.args.wants.now c.loop-j.invariant.1 c.requires.wants
 
 pub overflow_add-j : goal.overflow_add-j
-overflow_add-j c = omega (arith, c.loop-j-test.true, c.pair_at-count.type-inv)
+overflow_add-j c = omega (arith, c.loop-j-test.true, c.pair_at-count.type_inv)
 
 pub loop-j-smaller : goal.loop-j-smaller
 loop-j-smaller c = omega (arith, c.loop-j-test.true)

@@ -1,13 +1,9 @@
 -- `types::reasons::insist_list` meets its contract. The invariant: the reasons of the first j rows are counted.
 -- Assumes nothing.
 use Prim.Native.Nat.{◌≤◌, ◌-◌}
-use mathlib.Core.Path.{◌≡◌, ◌∙◌}
-use native.Mathlib.Omega.{arith}
 use Rattle.rules.specs.Base.{over}
 use Rattle.rules.specs.View.{entry}
-use Rattle.rules.specs.Trivial.{insist}
 use Rattle.types.specs.Reasons.{Tallied, of_plain}
-use Rattle.types.proofs.Counting.{tally-by, wants-same, over_none, over-more, over-end}
 use Rattle.types.proofs.reasons.insist_list.Given as goal
 
 abbrev pub invariant-loop-j : goal.invariant-loop-j

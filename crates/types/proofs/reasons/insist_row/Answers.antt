@@ -1,6 +1,5 @@
 -- `types::reasons::insist_row` meets its contract.
 -- Assumes nothing.
-use borrow.Author.Rules.{rules}
 use Rattle.types.proofs.Counting.{row-none, row-some}
 use Rattle.types.proofs.reasons.insist_row.Goals as goal
 

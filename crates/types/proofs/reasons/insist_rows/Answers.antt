@@ -1,10 +1,9 @@
-use Prim.Native.Nat.{◌≤◌, ◌-◌, ◌*◌}
+use Prim.Native.Nat.{◌*◌}
 use mathlib.Core.Path.{◌≡◌}
 use native.Mathlib.Omega.{arith}
-use Rattle.rules.specs.Base.{over}
 use Rattle.rules.specs.Format.{pair_at}
 use Rattle.rules.specs.Trivial.{reasons_of_row}
-use Rattle.types.specs.Reasons.{Tallied, of_row}
+use Rattle.types.specs.Reasons.{of_row}
 use Rattle.types.proofs.Counting.{tally-by, wants-same, over_none, over-more, over-end}
 use Rattle.types.proofs.reasons.insist_rows.Goals as goal
 

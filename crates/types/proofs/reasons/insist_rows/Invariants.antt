@@ -1,13 +1,9 @@
 -- `types::reasons::insist_rows` meets its contract. The invariant: the reasons of the first k rows are counted.
 -- Assumes nothing.
 use Prim.Native.Nat.{◌≤◌, ◌-◌, ◌*◌}
-use mathlib.Core.Path.{◌≡◌}
-use native.Mathlib.Omega.{arith}
 use Rattle.rules.specs.Base.{over}
 use Rattle.rules.specs.Format.{pair_at}
-use Rattle.rules.specs.Trivial.{reasons_of_row}
 use Rattle.types.specs.Reasons.{Tallied, of_row}
-use Rattle.types.proofs.Counting.{tally-by, wants-same, over_none, over-more, over-end}
 use Rattle.types.proofs.reasons.insist_rows.Given as goal
 
 abbrev pub invariant-loop-k : goal.invariant-loop-k

@@ -1,6 +1,5 @@
 -- `types::reasons::one_more` meets its contract.
 -- Assumes nothing.
-use borrow.Author.Rules.{rules}
 use borrow.Author.Tests.{lt-ltb, le-ltb}
 use Rattle.rules.specs.Base.{if◌then◌else◌}
 use Rattle.types.specs.Reasons.{one_more}

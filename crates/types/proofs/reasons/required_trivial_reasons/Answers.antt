@@ -1,6 +1,5 @@
 -- `types::reasons::required_trivial_reasons` meets its contract.
 -- Assumes nothing.
-use borrow.Author.Rules.{rules}
 use Prim.Native.Nat.{◌*◌}
 use Rattle.rules.specs.Base.{over}
 use Rattle.rules.specs.Format.{pair_at}

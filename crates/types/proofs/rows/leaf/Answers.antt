@@ -1,6 +1,5 @@
 -- `types::rows::leaf` meets its contract.
 -- Assumes nothing.
-use borrow.Author.Rules.{rules}
 use Rattle.types.proofs.rows.leaf.Goals as goal
 
 pub returns : goal.returns

@@ -1,7 +1,6 @@
 -- `types::rows::show` meets its contract: a row that was seen adds nothing.
 -- Assumes nothing.
 use mathlib.Core.Path.{refl, sym, ◌∙◌}
-use borrow.Author.Rules.{rules}
 use Rattle.types.proofs.Walking.{few, old}
 use Rattle.types.proofs.rows.show.Goals as goal
 

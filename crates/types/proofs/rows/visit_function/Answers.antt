@@ -1,6 +1,5 @@
 -- `types::rows::visit_function` meets its contract.
 -- Assumes nothing.
-use borrow.Author.Rules.{rules}
 use native.Mathlib.Omega.{arith}
 use native.Mathlib.Nat.{le_refl}
 use Rattle.types.proofs.Walking.{held_next}
@@ -8,7 +7,7 @@ use Rattle.types.proofs.Showing.{place-small, args-below, args-inside, return-be
 use Rattle.types.proofs.rows.visit_function.Goals as goal
 
 pub overflow_add-at : goal.overflow_add-at
-overflow_add-at c = omega (arith, c.return_place-at.ensures, place-small c.args.s.now (λ i. omega (arith, c.shared_slice_known-1.given i)) c.args.i)
+overflow_add-at c = omega (arith, c.return_place-at.ensures, place-small c.args.s.now (λ i. omega (arith, c.type_inv.s i)) c.args.i)
 
 pub visit_list-m-requires : goal.visit_list-m-requires
 visit_list-m-requires c = record {

@@ -1,16 +1,15 @@
 -- `types::rows::visit_item` meets its contract, by kinds of items.
 -- Assumes nothing.
-use borrow.Author.Rules.{rules}
 use Rattle.types.proofs.Showing.{fields-below, fields-inside, repr-below, impl-below, fields-walk, repr-walk, impl-walk, function-shown, none-shown}
 use Rattle.types.proofs.Showing.{is-enum, is_function_lem}
 use Rattle.types.proofs.rows.visit_item.Goals as goal
 
 pub visit_list-requires : goal.visit_list-requires
 visit_list-requires c = record {
-      walk = c.requires.walk;
-      below = fields-below _ c.requires.walk.accepted _ c.requires.below c.item_kind-k.ensures c.if-k-eq-STRUCT.true c.rest-fields.ensures;
-      inside = fields-inside _ c.requires.walk.accepted _ c.requires.below c.item_kind-k.ensures c.if-k-eq-STRUCT.true c.rest-fields.ensures;
-    }
+  walk = c.requires.walk;
+  below = fields-below _ c.requires.walk.accepted _ c.requires.below c.item_kind-k.ensures c.if-k-eq-STRUCT.true c.rest-fields.ensures;
+  inside = fields-inside _ c.requires.walk.accepted _ c.requires.below c.item_kind-k.ensures c.if-k-eq-STRUCT.true c.rest-fields.ensures;
+}
 
 pub returns-then-k-eq-STRUCT : goal.returns-then-k-eq-STRUCT
 returns-then-k-eq-STRUCT c = fields-walk _ c.item_kind-k.ensures c.if-k-eq-STRUCT.true c.rest-fields.ensures c.visit_list.ensures

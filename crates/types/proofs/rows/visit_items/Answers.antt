@@ -1,12 +1,6 @@
-use Prim.Native.Nat.{◌≤◌, ◌-◌}
-use mathlib.Core.Path.{◌≡◌, refl, ◌∙◌}
+use mathlib.Core.Path.{refl, ◌∙◌}
 use native.Mathlib.Omega.{arith}
 use native.Mathlib.Nat.{le_refl}
-use lib.ListN.{length}
-use Rattle.rules.specs.Base.{over}
-use Rattle.rules.specs.View.{rows}
-use Rattle.rules.specs.Collect.{shown_by}
-use Rattle.types.specs.Walk.{Walks}
 use Rattle.types.proofs.Walking.{held_next}
 use Rattle.types.proofs.Showing.{items-none, items_more, items-end}
 use Rattle.types.proofs.rows.visit_items.Goals as goal

@@ -1,16 +1,12 @@
 -- `types::rows::visit_items` meets its contract. The invariant: what the first i items show was walked.
 -- Assumes nothing.
 use Prim.Native.Nat.{◌≤◌, ◌-◌}
-use mathlib.Core.Path.{◌≡◌, refl, ◌∙◌}
-use native.Mathlib.Omega.{arith}
-use native.Mathlib.Nat.{le_refl}
+use mathlib.Core.Path.{◌≡◌}
 use lib.ListN.{length}
 use Rattle.rules.specs.Base.{over}
 use Rattle.rules.specs.View.{rows}
 use Rattle.rules.specs.Collect.{shown_by}
 use Rattle.types.specs.Walk.{Walks}
-use Rattle.types.proofs.Walking.{held_next}
-use Rattle.types.proofs.Showing.{items-none, items_more, items-end}
 use Rattle.types.proofs.rows.visit_items.Given as goal
 
 abbrev pub invariant-loop-i : goal.invariant-loop-i

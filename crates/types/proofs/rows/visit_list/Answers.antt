@@ -1,12 +1,7 @@
-use borrow.Author.Rules.{rules}
-use Prim.Native.Nat.{◌≤◌, ◌-◌}
 use mathlib.Core.Path.{◌≡◌, refl, ◌∙◌}
 use native.Mathlib.Omega.{arith}
 use native.Mathlib.Nat.{le_refl}
-use lib.ListN.{length}
-use Rattle.rules.specs.View.{rows}
-use Rattle.types.specs.Walk.{Walks}
-use Rattle.types.proofs.Walking.{held_next, first_rows, to_none, to-more, to_end}
+use Rattle.types.proofs.Walking.{held_next, to_none, to-more, to_end}
 use Rattle.types.proofs.rows.visit_list.Goals as goal
 
 pub pair_at-count-requires : goal.pair_at-count-requires

@@ -1,14 +1,11 @@
 -- `types::rows::visit_list` meets its contract. The invariant: the first j rows of the list were walked.
 -- Assumes nothing.
-use borrow.Author.Rules.{rules}
 use Prim.Native.Nat.{◌≤◌, ◌-◌}
-use mathlib.Core.Path.{◌≡◌, refl, ◌∙◌}
-use native.Mathlib.Omega.{arith}
-use native.Mathlib.Nat.{le_refl}
+use mathlib.Core.Path.{◌≡◌}
 use lib.ListN.{length}
 use Rattle.rules.specs.View.{rows}
 use Rattle.types.specs.Walk.{Walks}
-use Rattle.types.proofs.Walking.{held_next, first_rows, to_none, to-more, to_end}
+use Rattle.types.proofs.Walking.{first_rows}
 use Rattle.types.proofs.rows.visit_list.Given as goal
 
 abbrev pub invariant-loop-j : goal.invariant-loop-j

@@ -1,6 +1,5 @@
 -- `types::rows::visit_return` meets its contract.
 -- Assumes nothing.
-use borrow.Author.Rules.{rules}
 use Rattle.types.proofs.Walking.{none, one, not_none}
 use Rattle.types.proofs.rows.visit_return.Goals as goal
 

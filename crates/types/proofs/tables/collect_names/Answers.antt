@@ -1,8 +1,7 @@
-use Prim.Native.Nat.{◌≤◌, ◌-◌}
 use mathlib.Core.Path.{refl}
 use native.Mathlib.Omega.{arith}
 use Rattle.types.specs.Named.{keys_to}
-use Rattle.types.proofs.Passing.{Passed, pass-start, pass-turn, pass-end, item-is}
+use Rattle.types.proofs.Passing.{pass-start, pass-turn, pass-end, item-is}
 use Rattle.types.proofs.tables.collect_names.Goals as goal
 
 pub items-count-requires : goal.items-count-requires
@@ -37,7 +36,7 @@ enter_function-requires c =
     record { item = h; keys = c.loop-i.invariant.1.keys }
 
 pub overflow_add-i : goal.overflow_add-i
-overflow_add-i c = omega (arith, c.loop-i-test.true, c.items-count.type-inv)
+overflow_add-i c = omega (arith, c.loop-i-test.true, c.items-count.type_inv)
 
 pub loop-i-smaller : goal.loop-i-smaller
 loop-i-smaller c = omega (arith, c.loop-i-test.true)

@@ -1,10 +1,7 @@
 -- `types::tables::collect_names` meets its contract. The invariant: what is known of the names, the functions and the report are those of the first i items.
 -- Assumes nothing.
 use Prim.Native.Nat.{◌≤◌, ◌-◌}
-use mathlib.Core.Path.{refl}
-use native.Mathlib.Omega.{arith}
-use Rattle.types.specs.Named.{keys_to}
-use Rattle.types.proofs.Passing.{Passed, pass-start, pass-turn, pass-end, item-is}
+use Rattle.types.proofs.Passing.{Passed}
 use Rattle.types.proofs.tables.collect_names.Given as goal
 
 abbrev pub invariant-loop-i : goal.invariant-loop-i

@@ -1,6 +1,5 @@
 -- `types::tables::enter_item` meets its contract: one column after another; no item enters that of the reasons.
 -- Assumes nothing.
-use borrow.Author.Rules.{rules}
 use mathlib.Core.Path.{refl}
 use native.Mathlib.Omega.{arith}
 use Rattle.rules.specs.Numbers.{struct_set, enum_set, cxx_set, rust_set, alias_set, untrusted_set, required_trivial_set}
