@@ -1,0 +1,20 @@
+use borrow.Author.Rules.{rules}
+use native.Mathlib.Omega.{arith}
+use Prim.Native.Nat.{ℕ, ◌-◌, ◌≤◌}
+use mathlib.Core.Path.{◌≡◌, ◌∙◌, ap}
+use mathlib.Core.List.{List}
+use lib.ListN.{length, set}
+use Rattle.rules.specs.Numbers.{name_count}
+use Rattle.bridge_core.proofs.Parts.{counted_to, counted_start, counted-more, counted-all}
+use Rattle.bridge_core.proofs.answers.reasons.Goals as goal
+
+pub loop-n-init : goal.loop-n-init
+loop-n-init c = (omega arith, search rules, counted_start _)
+
+pub loop-n-preserved : goal.loop-n-preserved
+loop-n-preserved c =
+    let more = counted-more c.args.table.now c.loop-n.n (search rules) c.reasons_for.ensures in
+    (search rules, search rules, ap (λ (l : List ℕ). set l c.loop-n.n c.reasons_for.result) c.loop-n.invariant.2 ∙ more)
+
+pub returns : goal.returns
+returns c = c.loop-n.invariant.2 ∙ counted-all c.args.table.now c.loop-n.n (search rules)
