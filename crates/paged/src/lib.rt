@@ -1,5 +1,6 @@
 // The one call with a list of its own, by value: for programs and tests, which then need no walk.
 #![tactic(auto)]
+
 ghost use Rattle.std.specs.Prelude.{◌≡◌};
 ghost use Rattle.errors.specs.Records.{blank};
 ghost use Rattle.paged.specs.Paged.{Packed, Paged};

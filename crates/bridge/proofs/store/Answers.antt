@@ -22,7 +22,7 @@ loop-i-preserved c =
       omega arith,
       omega arith,
       ap (λ (l : List Diagnostic). set l c.loop-i.i c.record_from.result) c.loop-i.invariant.2
-      ∙ ap (set _ c.loop-i.i) c.record_from.ensures ∙ over-one list at bytes c.loop-i.i c.loop-i.invariant.0 inside,
+          ∙ ap (set _ c.loop-i.i) c.record_from.ensures ∙ over-one list at bytes c.loop-i.i c.loop-i.invariant.0 inside,
     )
 
 pub returns : goal.returns

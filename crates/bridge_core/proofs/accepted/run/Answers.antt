@@ -1,4 +1,4 @@
--- `bridge_core::accepted::run` meets its contract: what the steps ensure is put together by Whole.antt. Each step is reached from the one after it.
+-- `bridge_core::accepted::run` meets its contract: what the steps ensure is put together by Whole.antt.
 -- Assumes nothing.
 use borrow.Author.Rules.{rules}
 use native.Mathlib.Omega.{arith}
@@ -14,7 +14,7 @@ pub sort-sorted-requires : goal.sort-sorted-requires
 sort-sorted-requires c = plain-led c.leads-led.ensures c.requires.accepted
 
 pub tiers-tiers-requires : goal.tiers-tiers-requires
-tiers-tiers-requires c = (plain-led c.leads-led.ensures c.requires.accepted, plain-ordered c.leads-led.ensures c.sort-sorted.ensures)
+tiers-tiers-requires c = record { led = plain-led c.leads-led.ensures c.requires.accepted; ordered = plain-ordered c.leads-led.ensures c.sort-sorted.ensures }
 
 pub looks-looked-requires : goal.looks-looked-requires
 looks-looked-requires c = c.requires.accepted
