@@ -1,5 +1,6 @@
 // The text that the program `report` prints for a list of bytes, in a lent buffer.
 #![tactic(auto)]
+
 ghost use Rattle.rules.specs.Text.{sheet_text};
 ghost use Rattle.lines.specs.Put.{Wrote};
 
