@@ -1,17 +1,19 @@
 // Replays the stored answers of the original Rust (testdata/answers.bin, on standard input): every part of each answer, the collected rows and the
 // records are compared with what the port says of the same sheet. Prints a line of counts, and before it the first sheets that differ.
 #![tactic(auto)]
-ghost use Rattle.io.specs.Counts.{IsPrefixLen};
+
+ghost use Rattle.std.specs.Counts.{IsPrefixLen};
 
 mod input; // the stored file
 mod port; // what the port says of a sheet
 
 use input::{long_at, take};
-use libc::STDOUT_FILENO;
 use rules::size::{ANSWER, PAGE, SCRATCH};
+use std::io::{Stdin, Stdout};
 
-fn say(text: &[u8]) {
-    io::write_all(STDOUT_FILENO, text);
+// A write that fails is not told.
+fn say(out: Stdout, text: &[u8]) {
+    let _ = out.write_all(text);
 }
 
 // ## One stored answer, which is next on the input, against the port's, in the parts of testdata/README.md. The port's stands as docs/LAYOUT.md says.
@@ -48,18 +50,18 @@ fn is_part(part: u8) -> bool {
     part != ENDED
 }
 
-fn print_part(part: u8) {
+fn print_part(out: Stdout, part: u8) {
     match part {
-        1 => say(b": verdict"),
-        2 => say(b": position"),
-        3 => say(b": total"),
-        4 => say(b": sets"),
-        5 => say(b": sizes"),
-        6 => say(b": reasons"),
-        7 => say(b": order"),
-        8 => say(b": tiers"),
-        9 => say(b": collected rows"),
-        _ => say(b": records"),
+        1 => say(out, b": verdict"),
+        2 => say(out, b": position"),
+        3 => say(out, b": total"),
+        4 => say(out, b": sets"),
+        5 => say(out, b": sizes"),
+        6 => say(out, b": reasons"),
+        7 => say(out, b": order"),
+        8 => say(out, b": tiers"),
+        9 => say(out, b": collected rows"),
+        _ => say(out, b": records"),
     }
 }
 
@@ -112,13 +114,13 @@ fn fixed_parts(stored: &[u8], ours: &[u8]) -> u8 {
 }
 
 // The collected rows, a count and that many pairs.
-fn collected_rows(buf: &mut [u8], rows: &[u8], count: usize) -> u8 {
-    if take(buf, 2) < 2 {
+fn collected_rows(input: Stdin, buf: &mut [u8], rows: &[u8], count: usize) -> u8 {
+    if take(input, buf, 2) < 2 {
         return ENDED;
     }
     let n = sheet::pair_at(buf, 0) as u32;
     let bytes = 2 * n as usize;
-    if take(buf, bytes) < bytes {
+    if take(input, buf, bytes) < bytes {
         return ENDED;
     }
     if n as usize != count {
@@ -132,8 +134,8 @@ fn collected_rows(buf: &mut [u8], rows: &[u8], count: usize) -> u8 {
 }
 
 // The records, a count of at most rules::size::PAGE and that many times eight bytes.
-fn records(buf: &mut [u8], ours: &[u8]) -> u8 {
-    if take(buf, 4) < 4 {
+fn records(input: Stdin, buf: &mut [u8], ours: &[u8]) -> u8 {
+    if take(input, buf, 4) < 4 {
         return ENDED;
     }
     let n = long_at(buf, 0);
@@ -141,7 +143,7 @@ fn records(buf: &mut [u8], ours: &[u8]) -> u8 {
         return ENDED;
     }
     let bytes = 8 * n as usize;
-    if take(buf, bytes) < bytes {
+    if take(input, buf, bytes) < bytes {
         return ENDED;
     }
     if n != long_at(ours, 12) {
@@ -166,16 +168,16 @@ fn first(a: u8, b: u8, c: u8) -> u8 {
 }
 
 // Reads the stored answer, all of it, and gives the first part that differs.
-fn first_different(buf: &mut [u8], ours: &[u8], rows: &[u8], count: usize) -> u8 {
-    if take(buf, 1303) < 1303 {
+fn first_different(input: Stdin, buf: &mut [u8], ours: &[u8], rows: &[u8], count: usize) -> u8 {
+    if take(input, buf, 1303) < 1303 {
         return ENDED;
     }
     let a = fixed_parts(buf, ours);
-    let b = collected_rows(buf, rows, count);
+    let b = collected_rows(input, buf, rows, count);
     if b == ENDED {
         return ENDED;
     }
-    first(a, b, records(buf, ours))
+    first(a, b, records(input, buf, ours))
 }
 
 // ## All of them
@@ -245,14 +247,14 @@ struct Found {
 }
 
 // Asks the port about the sheet in the first n bytes, and compares with the stored answer, which is next on the input.
-fn judge(buf: &mut [u8], n: usize) -> Found
+fn judge(input: Stdin, buf: &mut [u8], n: usize) -> Found
     requires { IsPrefixLen n buf.old }
 {
     let mut ours = [0u8; port::ROOM];
     let mut rows = [0u8; SCRATCH];
     port::answer(&buf[..n], &mut ours);
     let count = port::rows(&buf[..n], &mut rows);
-    let part = first_different(buf, &ours, &rows, count);
+    let part = first_different(input, buf, &ours, &rows, count);
     Found {
         part,
         verdict: ours[0],
@@ -261,25 +263,25 @@ fn judge(buf: &mut [u8], n: usize) -> Found
 }
 
 // Reads the next sheet, and judges it.
-fn next(t: Tally, number: usize, buf: &mut [u8]) -> Tally {
-    if take(buf, 4) < 4 {
+fn next(input: Stdin, out: Stdout, t: Tally, number: usize, buf: &mut [u8]) -> Tally {
+    if take(input, buf, 4) < 4 {
         return stopped(t);
     }
     let n = long_at(buf, 0) as usize;
-    let got = take(buf, n);
+    let got = take(input, buf, n);
     if got < n {
         return stopped(t);
     }
-    let j = judge(buf, got);
+    let j = judge(input, buf, got);
     let part = j.part;
     if t.different < 8 {
-        print_difference(number, part);
+        print_difference(out, number, part);
     }
     tallied(t, part, j.verdict, j.records)
 }
 
 // All sheets, at most as many as the file says.
-fn replayed(buf: &mut [u8], count: usize) -> Tally {
+fn replayed(input: Stdin, out: Stdout, buf: &mut [u8], count: usize) -> Tally {
     let mut t = Tally {
         accepted: 0,
         refused: 0,
@@ -288,7 +290,7 @@ fn replayed(buf: &mut [u8], count: usize) -> Tally {
         ended: false,
     };
     for number in 0..count {
-        t = next(t, number, buf);
+        t = next(input, out, t, number, buf);
         if t.ended {
             return t;
         }
@@ -296,36 +298,38 @@ fn replayed(buf: &mut [u8], count: usize) -> Tally {
     t
 }
 
-fn print(label: &[u8], n: usize) {
-    say(label);
-    io::print_decimal(STDOUT_FILENO, n as u64);
+fn print(out: Stdout, label: &[u8], n: usize) {
+    say(out, label);
+    let _ = out.print(n);
 }
 
 // A line with the sheet's number, from 0, and the part that differs.
-fn print_difference(number: usize, part: u8) {
+fn print_difference(out: Stdout, number: usize, part: u8) {
     if is_part(part) {
-        print(b"sheet ", number);
-        print_part(part);
-        say(b"\n");
+        print(out, b"sheet ", number);
+        print_part(out, part);
+        say(out, b"\n");
     }
 }
 
-fn main() {
-    let mut space = io::large_buffer();
+fn main(rt: HostRuntime) {
+    let input = rt.stdin();
+    let out = rt.stdout();
+    let mut space = [0u8; 65536];
     let buf: &mut [u8] = &mut space;
-    take(buf, 4);
+    take(input, buf, 4);
     let count = long_at(buf, 0) as usize;
-    let t = replayed(buf, count);
-    print(b"sheets ", count);
-    print(b", accepted as stored ", t.accepted);
-    print(b", refused as stored ", t.refused);
-    print(b", their records ", t.records);
-    print(b", different ", t.different);
+    let t = replayed(input, out, buf, count);
+    print(out, b"sheets ", count);
+    print(out, b", accepted as stored ", t.accepted);
+    print(out, b", refused as stored ", t.refused);
+    print(out, b", their records ", t.records);
+    print(out, b", different ", t.different);
     if t.ended {
-        say(b", input ended early");
+        say(out, b", input ended early");
     }
-    if 0 < take(buf, 1) {
-        say(b", bytes left over");
+    if 0 < take(input, buf, 1) {
+        say(out, b", bytes left over");
     }
-    say(b"\n");
+    say(out, b"\n");
 }
