@@ -1,7 +1,7 @@
 -- What `replay` asks of the port is what the call answers: a record's bytes (`recorded`), an answer and records behind it (`laid`), of the page that the call
 -- fills (`told`); no room (`nothing`); and the collected rows, by what the reader says (`no_rows`, `some-rows`).
 -- Assumes nothing.
-use Prim.Native.Nat.{ℕ, ◌+◌, ◌-◌, ◌*◌, ◌/◌, ◌≤◌, ◌<◌, min}
+use Prim.Native.Nat.{ℕ, ◌+◌, ◌≤◌, ◌<◌, min}
 use mathlib.Core.Path.{◌≡◌, refl, sym, ap, ◌∙◌, subst}
 use mathlib.Core.List.{List, [], ◌++◌, flat_map}
 use native.Mathlib.Omega.{arith}
@@ -9,12 +9,10 @@ use lib.ListN.{length, get_or, take, replicate, length-take, length-replicate}
 use lib.Seq.{sets}
 use borrow.Author.Tests.{le-leb}
 use Rattle.rules.specs.Numbers.{scratch_size, page_size, answer_size}
-use Rattle.rules.specs.declared.Step.{Step}
 use Rattle.rules.specs.declared.Step.TheVariants.{Next, Refused}
 use Rattle.rules.specs.declared.Answer.{Answer}
 use Rattle.rules.specs.declared.Diagnostic.{Diagnostic}
 use Rattle.rules.specs.Base.{if◌then◌else◌}
-use Rattle.rules.specs.Format.{pair_at}
 use Rattle.rules.specs.Answer.{read_with, call}
 use Rattle.laws.proofs.Base.Stores.{sets-append, sets-kept}
 use Rattle.rules.specs.Diagnostics.{letter_of, numbers_of}
