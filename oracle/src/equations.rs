@@ -17,14 +17,12 @@ pub fn file(sheets: &[(usize, Vec<u8>)]) -> String {
 
 const HEAD: &str = "\
 -- What the original Rust answers, held against the definitions. Written by `equations`.
-use Prim.Native.Nat.{ℕ}
-use mathlib.Core.Path.{_≡_, refl}
-use mathlib.Core.List.{List, [], _∷_, _++_}
-use Rattle·rules.specs.declared.Place.the-variants.{R, G, I, F, A, O, D, L}
-use Rattle·rules.specs.Diagnostics.{tell}
-use Rattle·rules.specs.Answer.{refused}
-use Rattle·rules.specs.Table.{outcomeOf, blanks, scratch}
-use Rattle·rules.specs.Computed.{computed, collected}
+use Rattle.std.specs.Prelude.{ℕ, ◌≡◌, refl, List, [], ◌∷◌, ◌++◌}
+use Rattle.rules.specs.declared.Place.TheVariants.{R, G, I, F, A, O, D, L}
+use Rattle.rules.specs.Diagnostics.{tell}
+use Rattle.rules.specs.Answer.{refused}
+use Rattle.rules.specs.Table.{outcome_of, blanks, scratch}
+use Rattle.rules.specs.Computed.{computed, collected}
 ";
 
 fn equation(text: &mut String, number: usize, sheet: &[u8]) {
@@ -39,12 +37,12 @@ fn equation(text: &mut String, number: usize, sheet: &[u8]) {
             let rows = list(&answer.collected);
             let places = answer.records.len() + 1;
             write!(text, "\nrows-{number} : collected ({bytes}) ≡ {rows}\nunfolding collected\nrows-{number} = refl\n").unwrap();
-            (places, format!("outcomeOf {places} (record {{ {} }})", fields(&answer)))
+            (places, format!("outcome_of {places} (record {{ {} }})", fields(&answer)))
         }
     };
     let (places, outcome) = expected;
     write!(text, "\nsheet-{number} : computed ({bytes}) scratch (blanks {places}) ≡ {outcome}\n").unwrap();
-    write!(text, "unfolding computed outcomeOf refused\nsheet-{number} = refl\n").unwrap();
+    write!(text, "unfolding computed outcome_of refused\nsheet-{number} = refl\n").unwrap();
 }
 
 fn fields(answer: &Answer) -> String {
@@ -53,7 +51,7 @@ fn fields(answer: &Answer) -> String {
     let reasons: Vec<String> = reasons.map(|(name, count)| format!("({name}, {count})")).collect();
     let records: Vec<String> = answer.records.iter().map(record).collect();
     format!(
-        "nameSets = {}; reasons = {}; order = {}; tiers = {}; report = {}",
+        "name_sets = {}; reasons = {}; order = {}; tiers = {}; report = {}",
         list(&sets),
         list(&reasons),
         list(&answer.order),

@@ -14,7 +14,8 @@ use Rattle.rules.specs.View.{flag1, flag2, rows, kind, is, row_name, row_flags, 
 use Rattle.rules.specs.View.{lifetime_count, lifetime, derive_count, derive, field_count, field, enum_explicit, enum_variants, enum_defaults, type_bounds}
 use Rattle.rules.specs.View.{function_unsafe, function_trusted, function_unwind, is_method, is_free, self_type, receiver_mutable, receiver_pinned, return}
 use Rattle.rules.specs.View.{has_return, arg_count, arg, args, impl_row, impl_negative}
-use Rattle.rules.specs.Types.{Types, is_struct, is_enum, is_cxx, is_rust, is_alias, is_untrusted, is_required_trivial, is_extern, is_opaque, untrusted_of, type_of}
+use Rattle.rules.specs.Types.{Types, is_struct, is_enum, is_cxx, is_rust, is_alias, is_untrusted, is_required_trivial, is_extern, is_opaque}
+use Rattle.rules.specs.Types.{untrusted_of, type_of}
 use Rattle.rules.specs.Types.{reasons_for}
 
 module _ (s : List ℕ) (t : Types) where

@@ -1,6 +1,6 @@
 -- The eleven sheets of docs/RULES.md, in one table with what is expected of each, and one theorem; and the examples of the refusal table.
 -- Assumes nothing.
-use Rattle.std.specs.Prelude.{ℕ, zero, suc, ◌≡◌, refl, List, [], ◌∷◌, ◌++◌, map, replicate}
+use Rattle.std.specs.Prelude.{ℕ, ◌≡◌, refl, List, [], ◌∷◌, ◌++◌, map, replicate}
 use Rattle.rules.specs.declared.Place.TheVariants.{R, I, F, A, D}
 use Rattle.rules.specs.Diagnostics.{say, tell}
 use Rattle.rules.specs.Answer.{Outcome, refused}

@@ -92,7 +92,8 @@ module _ (s : List ℕ) where
     void : kind s r ≡ Void → Bad r
     slice : kind s r ≡ SliceRef → Bad r
     -- no atom and no struct, but borne by a RustType or an alias
-    name : kind s r ≡ Ident → atom_count ≤ row_name s r → (Borne Struct (row_name s r) → ⊥) → Borne RustType (row_name s r) ⊎ Borne TypeAlias (row_name s r) → Bad r
+    name : kind s r ≡ Ident → atom_count ≤ row_name s r → (Borne Struct (row_name s r) → ⊥)
+        → Borne RustType (row_name s r) ⊎ Borne TypeAlias (row_name s r) → Bad r
 
   -- the first field belongs to the name's last struct; a name that is no atom but a struct's leads to its last struct
   pub data Improper : (name : ℕ) → Type 0 where

@@ -5,7 +5,7 @@
 use Rattle.std.specs.Prelude.{ℕ, ◌+◌, ◌≡◌, refl, length, replicate}
 use mathlib.Core.List.{List, [], ◌∷◌, ◌++◌, flat_map}
 use Rattle.rules.specs.declared.Place.TheVariants.{F, G}
-use Rattle.rules.specs.Table.{Expected, expected_answer}
+use Rattle.rules.specs.Table.{expected_answer}
 use Rattle.rules.specs.Computed.{bytes, computed}
 use Rattle.rules.specs.Text.{ascii, digits_by, decimal, spaced, line, tiers_along, members_to, place_text, record_line}
 use Rattle.rules.specs.Text.{refused_text, accepted_text, text_of, sheet_text}

@@ -1,5 +1,6 @@
 // The types that a bridge sheet's answer is made of, and the numbers that have a name. What each value means is said in specs/; no function stands here.
 #![tactic(auto)]
+
 pub mod derive; // derives and lifetimes with a rule
 pub mod item; // kinds of items
 pub mod limit; // limits of a sheet

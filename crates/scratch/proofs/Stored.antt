@@ -62,7 +62,8 @@ module _ (b : List ℕ) (n r : ℕ) (l : marks_end ≤ length b) (n< : n < most_
   stored_other i p q = get_or-set_other (set b (2 * n) (r % 256)) (2 * n + 1) i (r / 256) 0 q ∙ get_or-set_other b (2 * n) i (r % 256) 0 p
 
   stored_low : get_or (with_row b n r) (2 * n) 0 ≡ r % 256
-  stored_low = get_or-set_other (set b (2 * n) (r % 256)) (2 * n + 1) (2 * n) (r / 256) 0 (λ e. omega arith) ∙ get_or-set_same b (2 * n) (r % 256) 0 (omega arith)
+  stored_low =
+      get_or-set_other (set b (2 * n) (r % 256)) (2 * n + 1) (2 * n) (r / 256) 0 (λ e. omega arith) ∙ get_or-set_same b (2 * n) (r % 256) 0 (omega arith)
 
   stored-high : get_or (with_row b n r) (2 * n + 1) 0 ≡ r / 256
   stored-high = get_or-set_same (set b (2 * n) (r % 256)) (2 * n + 1) (r / 256) 0 (simp length-set (omega arith))

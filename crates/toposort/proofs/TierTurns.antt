@@ -104,7 +104,8 @@ module _ (G : Graph) (t : List ℕ) (i : ℕ) (u : List ℕ) (h : u ≡ start_to
 
 -- ## The pass
 
-pub tiers-on : (G : Graph) (o t u : List ℕ) (p x : ℕ) → u ≡ tiers_to G o p t → x ≡ tier_from G u (get_or o p 0) → set u (get_or o p 0) x ≡ tiers_to G o (p + 1) t
+pub tiers-on : (G : Graph) (o t u : List ℕ) (p x : ℕ) → u ≡ tiers_to G o p t → x ≡ tier_from G u (get_or o p 0)
+    → set u (get_or o p 0) x ≡ tiers_to G o (p + 1) t
 unfolding tiers_to
 tiers-on G o t u p x h e = rw (add-one, tiers_to, ← h, e)
 

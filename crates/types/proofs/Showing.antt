@@ -100,7 +100,8 @@ module _ {s b : List ℕ} {n : ℕ} (i : ℕ) where
       kinds {k} e (inl t) = inl (sym e ∙ eqb-true k CxxFunction t)
       kinds {k} e (inr t) = inr (sym e ∙ eqb-true k RustFunction t)
 
-  pub none-shown : {k bound : ℕ} {u t : Bool} → Held s b n → k ≡ item_kind s i → (k ≡ Struct → ⊥) → u ≡ enum_kind k → u ≡ false → t ≡ function_kind k → t ≡ false
+  pub none-shown : {k bound : ℕ} {u t : Bool} → Held s b n → k ≡ item_kind s i → (k ≡ Struct → ⊥) → u ≡ enum_kind k → u ≡ false → t ≡ function_kind k
+      → t ≡ false
       → (k ≡ Impl → ⊥) → Walks s b b n bound (shown_by s i) n
   none-shown {k} h p a e o q f g =
       let v : eqb k Enum ≡ false = sym e ∙ o in

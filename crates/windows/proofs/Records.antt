@@ -16,5 +16,6 @@ records-back none l = refl
 records-back (more {x = d} {xs = ds} p ps) l =
     ap (λ (b : List ℕ). records_in (suc (length ds)) b) (append_assoc (record_bytes d) (flat_map record_bytes ds) l)
     ∙ records-more d (flat_map record_bytes ds ++ l) (length ds)
-    ∙ ap {B = List Diagnostic} (λ (x : Diagnostic). x ∷ records_in (length ds) (flat_map record_bytes ds ++ l)) (record-back d p (flat_map record_bytes ds ++ l))
+    ∙ ap {B = List Diagnostic} (λ (x : Diagnostic). x ∷ records_in (length ds) (flat_map record_bytes ds ++ l))
+    (record-back d p (flat_map record_bytes ds ++ l))
     ∙ ap {B = List Diagnostic} (λ (xs : List Diagnostic). d ∷ xs) (records-back ps l)

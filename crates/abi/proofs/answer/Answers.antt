@@ -1,7 +1,6 @@
 -- `abi::answer` meets its contract: the records that `run` leaves in the lent part, and the answer before them. Assumes nothing.
 use mathlib.Core.Path.{refl}
 use Rattle.abi.proofs.Answers.{answered}
-use borrow.Author.Rules.{rules}
 use Rattle.abi.proofs.answer.Goals as goal
 
 pub returns : goal.returns

@@ -44,8 +44,10 @@ structs-smaller-then-i c = omega arith
 
 pub structs-preserved-then-i : goal.structs-preserved-then-i
 structs-preserved-then-i c =
-    let e = fields-none c.args.s.now c.args.names.now c.args.looks.now c.requires.given c.structs.n c.struct_of-i.result (c.struct_of-i.ensures c.args.s.now) c.if-i.true in
-    let f : found_in c.args.s.now c.structs.found.words c.structs.n (looks_fields c.args.s.now (types_of c.args.s.now) c.structs.n) ≡ false = rw e (found-start _ _ _) in
+    let e = fields-none c.args.s.now c.args.names.now c.args.looks.now c.requires.given c.structs.n c.struct_of-i.result
+    (c.struct_of-i.ensures c.args.s.now) c.if-i.true in
+    let f : found_in c.args.s.now c.structs.found.words c.structs.n (looks_fields c.args.s.now (types_of c.args.s.now) c.structs.n) ≡ false =
+    rw e (found-start _ _ _) in
     (omega arith, passes-not _ _ _ _ _ c.structs.invariant.1 (sym c.contains.ensures ∙ c.if-contains.false) f)
 
 pub loop-k-init : goal.loop-k-init
@@ -63,9 +65,13 @@ structs-smaller c = omega arith
 
 pub structs-preserved : goal.structs-preserved
 structs-preserved c =
-    let e : c.loop-k.k ≡ looks_fields c.args.s.now (types_of c.args.s.now) c.structs.n = omega (arith, c.loop-k.invariant.4.count, c.loop-k.invariant.2, c.loop-k-test.false) in
-    let f : found_in c.args.s.now c.structs.found.words c.structs.n c.loop-k.k ≡ false = rw c.loop-k.invariant.0 at c.loop-k.invariant.3 in
-    (omega arith, rw (c.loop-k.invariant.0, c.loop-k.invariant.1) (passes-not _ _ _ _ _ c.structs.invariant.1 (sym c.contains.ensures ∙ c.if-contains.false) (rw e at f)))
+    let e : c.loop-k.k ≡ looks_fields c.args.s.now (types_of c.args.s.now) c.structs.n =
+    omega (arith, c.loop-k.invariant.4.count, c.loop-k.invariant.2, c.loop-k-test.false) in
+    let f : found_in c.args.s.now c.structs.found.words c.structs.n c.loop-k.k ≡ false = rw c.loop-k.invariant.0 at c.loop-k.invariant.3 in (
+      omega arith,
+      rw (c.loop-k.invariant.0, c.loop-k.invariant.1)
+          (passes-not _ _ _ _ _ c.structs.invariant.1 (sym c.contains.ensures ∙ c.if-contains.false) (rw e at f)),
+    )
 
 pub entry_within-row-requires : goal.entry_within-row-requires
 entry_within-row-requires c = c.loop-k.invariant.4.inside _ c.loop-k-test.true

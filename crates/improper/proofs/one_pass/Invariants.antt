@@ -1,5 +1,6 @@
 -- `improper::one_pass` meets its contract. The invariant over the names: those before n are passed. Over the fields of one: none before k is improper, the
--- set is as it was, and the fields are those of the name's last struct. A name that is skipped would not have been found. The measures are what is left of the names, and of the fields.
+-- set is as it was, and the fields are those of the name's last struct. A name that is skipped would not have been found. The measures are what is left of
+-- the names, and of the fields.
 -- Assumes nothing.
 use Prim.Native.Nat.{ℕ, ◌-◌, ◌≤◌, ◌<◌}
 use mathlib.Core.Path.{◌≡◌, refl, sym, ap, subst, ◌∙◌}
@@ -17,7 +18,9 @@ use Rattle.improper.proofs.Later.{still-out, skipped}
 use Rattle.improper.proofs.one_pass.Given as goal
 
 abbrev pub invariant-loop-k : goal.invariant-loop-k
-invariant-loop-k l = (l.found ≡ l.initial.found) × (l.new ≡ l.initial.new) × (l.k ≤ l.fields) × (found_in l.s l.found.words l.name l.k ≡ false) × FieldsOf l.s l.looks l.name l.at l.fields
+invariant-loop-k l =
+    (l.found ≡ l.initial.found) × (l.new ≡ l.initial.new) × (l.k ≤ l.fields) × (found_in l.s l.found.words l.name l.k ≡ false)
+    × FieldsOf l.s l.looks l.name l.at l.fields
 
 abbrev pub decreases-loop-k : goal.decreases-loop-k
 decreases-loop-k l = l.fields - l.k

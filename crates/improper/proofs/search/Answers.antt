@@ -35,7 +35,10 @@ pub loop-new-smaller : goal.loop-new-smaller
 loop-new-smaller c = searching-less _ _ _ c.loop-new.invariant.0 c.loop-new-test.true _ _ c.one_pass-q.ensures
 
 pub loop-new-preserved : goal.loop-new-preserved
-loop-new-preserved c = (searching-on _ _ _ c.loop-new.invariant.0 c.loop-new-test.true _ _ c.one_pass-q.ensures, later-on _ _ c.loop-new.invariant.0.size _ _ _ c.one_pass-q.ensures c.loop-new.invariant.1)
+loop-new-preserved c = (
+  searching-on _ _ _ c.loop-new.invariant.0 c.loop-new-test.true _ _ c.one_pass-q.ensures,
+  later-on _ _ c.loop-new.invariant.0.size _ _ _ c.one_pass-q.ensures c.loop-new.invariant.1,
+)
 
 pub returns : goal.returns
 returns c = searched c.args.s.now c.requires.accepted _ (c.loop-new.invariant.0.done c.loop-new-test.false)

@@ -64,7 +64,10 @@ module _ (G : Graph) (n : ℕ) (good : Good G n) where
   visit-calls (suc f) m i z q b = go (visit-calls f) (eqb (get_or m i 0) 0) refl
     where
       go : Counter f (visit_out f G) → (b : Bool) → eqb (get_or m i 0) 0 ≡ b
-          → Counts (elim b as (λ _. Out) [ true ↦ finished i (fields_out (visit_out f G) G i (G.fields i) (set m i 1)) | false ↦ seen (eqb (get_or m i 0) 2) m ]) 1
+          → Counts (elim b as (λ _. Out) [
+            | true ↦ finished i (fields_out (visit_out f G) G i (G.fields i) (set m i 1))
+            | false ↦ seen (eqb (get_or m i 0) 2) m
+          ]) 1
       go ih true e =
           let d = fresh_set m i 0 (omega arith) (eqb-true (get_or m i 0) 0 e) in
           let a = fields_out (visit_out f G) G i (G.fields i) (set m i 1) in

@@ -86,7 +86,8 @@ module _ (G : Graph) (n : ℕ) (good : Good G n) where
   fuel (suc f) zero m i l b p q = absurd (omega arith)
   fuel (suc f) (suc h) m i l b p q = go (eqb (get_or m i 0) 0) refl (λ t j l' p' q' b'. fuel f h t j l' b' p' q')
     where
-      go : (b : Bool) → eqb (get_or m i 0) 0 ≡ b → ((t : List ℕ) (j : ℕ) → length t ≡ n → fresh t < f → fresh t < h → j < n → visit_out f G t j ≡ visit_out h G t j)
+      go : (b : Bool) → eqb (get_or m i 0) 0 ≡ b
+          → ((t : List ℕ) (j : ℕ) → length t ≡ n → fresh t < f → fresh t < h → j < n → visit_out f G t j ≡ visit_out h G t j)
           → ◌≡◌ {A = Out} (elim b as (λ _. Out) [
             | true ↦ finished i (fields_out (visit_out f G) G i (G.fields i) (set m i 1))
             | false ↦ seen (eqb (get_or m i 0) 2) m
@@ -96,6 +97,7 @@ module _ (G : Graph) (n : ℕ) (good : Good G n) where
           ])
       go true e ih =
           let d = fresh_set m i 0 (omega arith) (eqb-true (get_or m i 0) 0 e) in
-          ap (finished i) (fields-agree (fresh m) (visit_out f G) (visit_out h G) (λ t j l' z b'. ih t j l' (omega arith) (omega arith) b') (visit-shrinks G h) i
+          ap (finished i) (fields-agree (fresh m) (visit_out f G) (visit_out h G) (λ t j l' z b'. ih t j l' (omega arith) (omega arith) b')
+          (visit-shrinks G h) i
           (G.fields i) (omega arith) (set m i 1) (length-set m i 1 ∙ l) (omega arith))
       go false e ih = refl

@@ -70,7 +70,8 @@ module _ (s : List ℕ) (p : ℕ → Bool) where
           let w : get_or (set t (item_name s k) k) n no_item ≡ k =
           ap (λ x. get_or (set t (item_name s k) k) x no_item) q ∙ get_or-set_same t (item_name s k) k no_item (omega (arith, length_last k)) in
           subst (λ (x : ℕ). Last s p (suc k) n x) (sym w) (last {r = k} (omega arith) (subst T (sym e) tt) (sym q) (λ j m _ _. omega arith))
-      go true e (other _ q) ih = subst (λ (x : ℕ). Last s p (suc k) n x) (sym (get_or-set_other t (item_name s k) n k no_item q)) (widen k n (λ _ d. q (sym d)) ih)
+      go true e (other _ q) ih =
+          subst (λ (x : ℕ). Last s p (suc k) n x) (sym (get_or-set_other t (item_name s k) n k no_item q)) (widen k n (λ _ d. q (sym d)) ih)
       go false e q ih = widen k n (λ u. absurd (subst T e u)) ih
 
 -- ## Struct items

@@ -73,7 +73,8 @@ has-add s i x l h = go (eq? (x / 64) (i / 64)) (eq? (x % 64) (i % 64)) (eq? x i)
     there : x / 64 ≡ i / 64 → get_or (set s (i / 64) w) (x / 64) 0 ≡ w
     there p = ap (λ n. get_or (set s (i / 64) w) n 0) p ∙ get_or-set_same s (i / 64) w 0 fits
 
-    bits : x / 64 ≡ i / 64 → bit_of (get_or (set s (i / 64) w) (x / 64) 0) (x % 64) ≡ max (bit_of (get_or s (x / 64) 0) (x % 64)) (bit_of (2 ^ (i % 64)) (x % 64))
+    bits : x / 64 ≡ i / 64 → bit_of (get_or (set s (i / 64) w) (x / 64) 0) (x % 64)
+        ≡ max (bit_of (get_or s (x / 64) 0) (x % 64)) (bit_of (2 ^ (i % 64)) (x % 64))
     bits p =
         ap (λ n. bit_of n (x % 64)) (there p) ∙ or-bit (get_or s (i / 64) 0) (2 ^ (i % 64)) (x % 64)
         ∙ ap (λ n. max (bit_of (get_or s n 0) (x % 64)) (bit_of (2 ^ (i % 64)) (x % 64))) (sym p)

@@ -186,9 +186,11 @@ module _ (s : List ℕ) (small : (i : ℕ) → get_or s i 0 < 256) where
       -- both return nothing, or both return a row, which stands first
       fn-shown : (fn_return s r ≡ fn_return s q) × (fn_args s r ≡ fn_args s q)
       unfolding or_nothing if◌then◌else◌
-      fn-shown = go (eqb (fn_return s r) no_row) (eqb (fn_return s q) no_row) refl refl (let x = fn-nums in cc) (sym (shown-fn s r e) ∙ shows ∙ shown-fn s q also)
+      fn-shown =
+          go (eqb (fn_return s r) no_row) (eqb (fn_return s q) no_row) refl refl (let x = fn-nums in cc) (sym (shown-fn s r e) ∙ shows ∙ shown-fn s q also)
         where
-          go : (x y : Bool) → eqb (fn_return s r) no_row ≡ x → eqb (fn_return s q) no_row ≡ y → bit (eqb (fn_return s r) no_row) ≡ bit (eqb (fn_return s q) no_row)
+          go : (x y : Bool) → eqb (fn_return s r) no_row ≡ x → eqb (fn_return s q) no_row ≡ y
+              → bit (eqb (fn_return s r) no_row) ≡ bit (eqb (fn_return s q) no_row)
               → (if x then [] else fn_return s r ∷ []) ++ fn_args s r ≡ (if y then [] else fn_return s q ∷ []) ++ fn_args s q
               → (fn_return s r ≡ fn_return s q) × (fn_args s r ≡ fn_args s q)
           go true true c d _ h = (eqb-true (fn_return s r) no_row c ∙ sym (eqb-true (fn_return s q) no_row d), h)

@@ -25,4 +25,7 @@ pub returns : goal.returns
 unfolding structs_text
 returns c =
     let few : c.args.answer.structs ≤ 255 = search (rules, c.well_formed.1.1.0.1.1.1.1.1.1.0) in
-    record { put = also c.put_order-a.ensures.put c.put_tiers.ensures.put; upper_bound = omega (arith, c.put_order-a.ensures.upper_bound, c.put_tiers.ensures.upper_bound) }
+    record {
+      put = also c.put_order-a.ensures.put c.put_tiers.ensures.put;
+      upper_bound = omega (arith, c.put_order-a.ensures.upper_bound, c.put_tiers.ensures.upper_bound);
+    }

@@ -14,4 +14,5 @@ use Rattle.printed.proofs.text.Goals as goal
 pub returns : goal.returns
 returns c =
     let long : length (replicate {A = Diagnostic} page_size blank) ≡ page_size = length-replicate {A = Diagnostic} page_size blank in
-    wrote-meant c.write.ensures (text-is c.args.sheet.now (replicate page_size blank) _ _ (omega arith) c.call-page.ensures.called.answer c.call-page.ensures.called.list)
+    wrote-meant c.write.ensures (text-is c.args.sheet.now (replicate page_size blank) _ _ (omega arith) c.call-page.ensures.called.answer
+    c.call-page.ensures.called.list)

@@ -16,7 +16,8 @@ unfolding largest
 loop-j-init c = (counted_is c.args.s.now c.args.i _ _ c.rest-at.ensures c.pair_at-fields.ensures, omega arith, λ t h. refl)
 
 pub leads_to-inner-requires : goal.leads_to-inner-requires
-leads_to-inner-requires c = (c.requires.0, field_in c.args.s.now c.requires.0.accepted c.args.i _ _ c.requires.1 c.rest-at.ensures c.loop-j.invariant.0 c.loop-j.j c.loop-j-test.true)
+leads_to-inner-requires c =
+    (c.requires.0, field_in c.args.s.now c.requires.0.accepted c.args.i _ _ c.requires.1 c.rest-at.ensures c.loop-j.invariant.0 c.loop-j.j c.loop-j-test.true)
 
 pub loop-j-smaller : goal.loop-j-smaller
 loop-j-smaller c = omega arith
@@ -26,8 +27,12 @@ loop-j-preserved c =
     let lt : c.loop-j.j < field_count c.args.s.now c.args.i = omega (arith, c.loop-j.invariant.0, c.loop-j-test.true) in
     let e = c.leads_to-inner.ensures c.args.i c.requires.1 c.rest-at.ensures lt in
     let g = table_graph c.args.s.now c.args.leads.now in
-    let b = leads-below c.requires.0 c.args.i c.loop-j.j lt in
-    (c.loop-j.invariant.0, omega arith, λ t u. largest-turn t c.args.ups.now g c.args.i c.loop-j.j _ _ _ u (c.loop-j.invariant.2 t u) e (omega (arith, e, b)) c.larger-best.ensures)
+    let b = leads-below c.requires.0 c.args.i c.loop-j.j lt in (
+      c.loop-j.invariant.0,
+      omega arith,
+      λ t u. largest-turn t c.args.ups.now g c.args.i c.loop-j.j _ _ _ u (c.loop-j.invariant.2 t u) e
+          (omega (arith, e, b)) c.larger-best.ensures,
+    )
 
 pub returns : goal.returns
 returns c t u =

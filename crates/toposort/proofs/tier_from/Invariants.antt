@@ -11,7 +11,9 @@ use Rattle.toposort.specs.Leads.{table_graph, Ups}
 use Rattle.toposort.proofs.tier_from.Given as goal
 
 abbrev pub invariant-loop-j : goal.invariant-loop-j
-invariant-loop-j l = (l.fields ≡ field_count l.s l.i) × (l.j ≤ l.fields) × ((t : List ℕ) → Ups t l.ups 255 → l.best ≡ largest (λ x. up (get_or t x 0)) (table_graph l.s l.leads) l.i l.j)
+invariant-loop-j l =
+    (l.fields ≡ field_count l.s l.i) × (l.j ≤ l.fields)
+    × ((t : List ℕ) → Ups t l.ups 255 → l.best ≡ largest (λ x. up (get_or t x 0)) (table_graph l.s l.leads) l.i l.j)
 
 abbrev pub decreases-loop-j : goal.decreases-loop-j
 decreases-loop-j l = l.fields - l.j

@@ -20,13 +20,15 @@ pub loop-i-smaller-then-is_struct : goal.loop-i-smaller-then-is_struct
 loop-i-smaller-then-is_struct c = omega arith
 
 pub loop-i-preserved-then-is_struct : goal.loop-i-preserved-then-is_struct
-loop-i-preserved-then-is_struct c = (omega arith, λ d. start-struct (table_graph c.args.s.now d) _ c.loop-i.i _ (c.loop-i.invariant.1 d) (sym c.is_struct.ensures ∙ c.if-is_struct.true))
+loop-i-preserved-then-is_struct c =
+    (omega arith, λ d. start-struct (table_graph c.args.s.now d) _ c.loop-i.i _ (c.loop-i.invariant.1 d) (sym c.is_struct.ensures ∙ c.if-is_struct.true))
 
 pub loop-i-smaller : goal.loop-i-smaller
 loop-i-smaller c = omega arith
 
 pub loop-i-preserved : goal.loop-i-preserved
-loop-i-preserved c = (omega arith, λ d. start-other (table_graph c.args.s.now d) _ c.loop-i.i _ (c.loop-i.invariant.1 d) (sym c.is_struct.ensures ∙ c.if-is_struct.false))
+loop-i-preserved c =
+    (omega arith, λ d. start-other (table_graph c.args.s.now d) _ c.loop-i.i _ (c.loop-i.invariant.1 d) (sym c.is_struct.ensures ∙ c.if-is_struct.false))
 
 pub returns : goal.returns
 returns c d =

@@ -15,7 +15,13 @@ pub loop-i-smaller : goal.loop-i-smaller
 loop-i-smaller c = omega arith
 
 pub loop-i-preserved : goal.loop-i-preserved
-loop-i-preserved c = (omega arith, length-set c.loop-i.ups c.loop-i.i _ ∙ c.loop-i.invariant.1, ups-on c.args.tiers.now c.loop-i.ups c.loop-i.i _ c.loop-i.invariant.2 c.loop-i.invariant.1 c.loop-i-test.true c.above-x.ensures)
+loop-i-preserved c = (
+  omega arith,
+  length-set c.loop-i.ups c.loop-i.i _
+      ∙ c.loop-i.invariant.1,
+  ups-on c.args.tiers.now c.loop-i.ups c.loop-i.i _ c.loop-i.invariant.2 c.loop-i.invariant.1 c.loop-i-test.true
+      c.above-x.ensures,
+)
 
 pub returns : goal.returns
 returns c = ups-end _ _ c.loop-i.i (omega arith) c.loop-i.invariant.2

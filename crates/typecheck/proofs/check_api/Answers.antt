@@ -54,6 +54,7 @@ returns-in-8 c = meant (c.check_api_impl.ensures _) (by_kind _ _ _ (sym c.in-8.i
 
 pub returns-in_default : goal.returns-in_default
 returns-in_default c =
-    meant (silent _ _) (nothing _ _ _ _ c.in_default.in_default-own.rest.0.0.0.0.0.0.0.1 c.in_default.in_default-own.rest.0.0.0.0.0.0.1 c.in_default.in_default-own.rest.0.0.0.0.0.1 c.in_default.in_default-own.rest.0.0.0.0.1
+    meant (silent _ _) (nothing _ _ _ _ c.in_default.in_default-own.rest.0.0.0.0.0.0.0.1 c.in_default.in_default-own.rest.0.0.0.0.0.0.1
+    c.in_default.in_default-own.rest.0.0.0.0.0.1 c.in_default.in_default-own.rest.0.0.0.0.1
     c.in_default.in_default-own.rest.0.0.0.1 c.in_default.in_default-own.rest.0.0.1 c.in_default.in_default-own.rest.0.1 c.in_default.in_default-own.rest.1
     ∙ by_kind _ _ _ c.item_kind.ensures)

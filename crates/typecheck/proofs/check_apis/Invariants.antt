@@ -11,7 +11,8 @@ use Rattle.errors.specs.Sink.{Reported, start, turn, whole}
 use Rattle.typecheck.proofs.check_apis.Given as goal
 
 abbrev pub invariant-loop-i : goal.invariant-loop-i
-invariant-loop-i l = (length l.out ≡ length l.initial.out) × (l.i ≤ l.n) × Reported l.initial.out l.initial.e (over l.i (check_api l.s (tabled l.s l.names))) l.e l.out
+invariant-loop-i l =
+    (length l.out ≡ length l.initial.out) × (l.i ≤ l.n) × Reported l.initial.out l.initial.e (over l.i (check_api l.s (tabled l.s l.names))) l.e l.out
 
 abbrev pub decreases-loop-i : goal.decreases-loop-i
 decreases-loop-i l = l.n - l.i

@@ -11,7 +11,8 @@ use Rattle.improper.proofs.targets.targets_of.Goals as goal
 
 pub returns-then-i : goal.returns-then-i
 returns-then-i c =
-    let e = fields-none c.args.s.now c.args.names.now c.args.looks.now c.requires c.args.n c.struct_of-i.result (c.struct_of-i.ensures c.args.s.now) c.if-i.true in
+    let e = fields-none c.args.s.now c.args.names.now c.args.looks.now c.requires c.args.n c.struct_of-i.result (c.struct_of-i.ensures c.args.s.now)
+    c.if-i.true in
     record { has = λ k j l h. absurd (omega (arith, l, e)) }
 
 pub loop-k-init : goal.loop-k-init

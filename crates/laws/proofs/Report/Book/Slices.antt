@@ -84,7 +84,8 @@ module _ (s : List ℕ) (acc : Accepted s) (t : Types) (r : ℕ) (l : r < rows s
 
   -- with or without, of a plain element
   pub slice-plain : kind s r ≡ SliceRef → plain s r ≡ true → tells 23 (check_type s t r) ≡ ((is_string || forbidden s t r) && not in_rust && not in_aliases)
-  unfolding check_type type_checks check_type_slice_ref is_unsized_ident opaque_cxx is_shared holds_no_cxx holds_no_rust is_extern extern_in is_cxx is_struct is_enum
+  unfolding check_type type_checks check_type_slice_ref is_unsized_ident opaque_cxx is_shared holds_no_cxx holds_no_rust is_extern extern_in is_cxx
+      is_struct is_enum
   slice-plain k e =
       rw (forbids-cxx s t r SliceRef k refl refl, k, e)
       (simp (has-when, and-true, unsized-plain SliceRef refl k e) (of is_string is_trivial in_rust in_aliases in_cxx in_structs in_enums))
@@ -101,7 +102,8 @@ module _ (s : List ℕ) (acc : Accepted s) (t : Types) (r : ℕ) (l : r < rows s
 
   -- so what the book forbids is refused, unless a RustType declares it too: then nothing is said
   pub slice-refused : kind s r ≡ SliceRef → forbidden s t r ≡ true → check_type s t r ≡ when (not in_rust) (tell 23 (R r) 1)
-  unfolding check_type type_checks check_type_slice_ref opaque_cxx is_shared is_unsized_ident holds_no_cxx holds_no_rust is_extern extern_in is_cxx is_struct is_enum
+  unfolding check_type type_checks check_type_slice_ref opaque_cxx is_shared is_unsized_ident holds_no_cxx holds_no_rust is_extern extern_in is_cxx
+      is_struct is_enum
   slice-refused k f =
       let h = both-are (plain s r) (opaque_cxx t (target s r)) (sym (forbids-cxx s t r SliceRef k refl refl) ∙ f) in
       rw (k, unsized-plain SliceRef refl k h.0, h.0) (of is_string is_trivial in_rust in_aliases in_cxx in_structs in_enums h.1)
@@ -125,7 +127,8 @@ module _ (s : List ℕ) (acc : Accepted s) (t : Types) (r : ℕ) (l : r < rows s
   -- of a plain element: CxxString, an alias that nothing requires trivial, and a RustType's name
   pub array-is : kind s r ≡ Array → plain s r ≡ true
       → tells 24 (check_type s t r) ≡ (is_string || forbidden s t r || (in_cxx && not in_structs && not in_enums && in_aliases && not is_trivial) || in_rust)
-  unfolding check_type type_checks check_type_array is_unsized_ident opaque_cxx is_shared holds_no_cxx holds_no_rust is_extern extern_in is_cxx is_struct is_enum
+  unfolding check_type type_checks check_type_array is_unsized_ident opaque_cxx is_shared holds_no_cxx holds_no_rust is_extern extern_in is_cxx
+      is_struct is_enum
   array-is k e =
       rw (forbids-cxx s t r Array k refl refl, k, e)
       (simp (has-when, and-true, unsized-plain Array refl k e) (of is_string is_trivial in_rust in_aliases in_cxx in_structs in_enums))

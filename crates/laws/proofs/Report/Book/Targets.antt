@@ -43,7 +43,8 @@ module _ (s : List ℕ) (t : Types) (r : ℕ) where
   forbidden-by a b e d = rw (e, d) refl
 
   pub forbids-cxx : (k : ℕ) → kind s r ≡ k → holds_no_cxx k ≡ true → holds_no_rust k ≡ false → forbidden s t r ≡ (plain s r && opaque_cxx t (target s r))
-  forbids-cxx k e a b = forbidden-by true false (ap holds_no_cxx e ∙ a) (ap holds_no_rust e ∙ b) ∙ ap (λ c. plain s r && c) (or-false (opaque_cxx t (target s r)))
+  forbids-cxx k e a b =
+      forbidden-by true false (ap holds_no_cxx e ∙ a) (ap holds_no_rust e ∙ b) ∙ ap (λ c. plain s r && c) (or-false (opaque_cxx t (target s r)))
 
   forbids-rust : (k : ℕ) → kind s r ≡ k → holds_no_cxx k ≡ false → holds_no_rust k ≡ true → forbidden s t r ≡ (plain s r && opaque_rust t (target s r))
   forbids-rust k e a b = forbidden-by false true (ap holds_no_cxx e ∙ a) (ap holds_no_rust e ∙ b)

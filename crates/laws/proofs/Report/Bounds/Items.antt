@@ -119,7 +119,8 @@ module _ (s : List ℕ) (acc : Accepted s) (t : Types) (i : ℕ) (l : i < items 
   next : ℕ
   next = (bodies_of s acc).start (suc (rows s + i))
 
-  fits : (k : ℕ) → item_kind s i ≡ k → length (get_or (api_checks s t) k (no_check s t) i) + bit (eqb k Struct) * field_count s i + 1 + item_place s i ≤ next + 2
+  fits : (k : ℕ) → item_kind s i ≡ k → length (get_or (api_checks s t) k (no_check s t) i) + bit (eqb k Struct) * field_count s i + 1 + item_place s i ≤
+      next + 2
   unfolding api_checks no_check next
   fits zero e = omega (arith, (item-sizes s acc i l).include e)
   fits (suc zero) e = omega (arith, struct-few s t i, (item-sizes s acc i l).struct e)
@@ -135,4 +136,5 @@ module _ (s : List ℕ) (acc : Accepted s) (t : Types) (i : ℕ) (l : i < items 
 
   pub item_room : records_of s t i + (bodies_of s acc).start (rows s + i) ≤ (bodies_of s acc).start (suc (rows s + i)) + 2
   unfolding records_of check_api item_is item_place next
-  item_room = omega (arith, when-one (duplicate s i) (record { message = 1; place = I i; detail = 0 }), fits (item_kind s i) refl, (bodies_of s acc).item-at i l)
+  item_room =
+      omega (arith, when-one (duplicate s i) (record { message = 1; place = I i; detail = 0 }), fits (item_kind s i) refl, (bodies_of s acc).item-at i l)

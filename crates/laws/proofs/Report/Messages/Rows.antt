@@ -113,7 +113,8 @@ module _ (s : List ℕ) (t : Types) (r : ℕ) where
   unfolding K.no_check
   no_row = none
 
-  by_kind : (k : ℕ) → kind s r ≡ k → All (OfRow s r (get_or row_table k (3, 2)).0 (get_or row_table k (3, 2)).1) (get_or (K.type_checks s t) k (K.no_check s t) r)
+  by_kind : (k : ℕ) → kind s r ≡ k → All (OfRow s r (get_or row_table k (3, 2)).0 (get_or row_table k (3, 2)).1)
+      (get_or (K.type_checks s t) k (K.no_check s t) r)
   unfolding row_table K.type_checks
   by_kind zero e = ident
   by_kind (suc zero) e = box

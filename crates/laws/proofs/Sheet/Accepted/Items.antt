@@ -15,7 +15,8 @@ use Rattle.rules.specs.declared.Step.TheVariants.{Next}
 use Rattle.rules.specs.Base.{if◌then◌else◌}
 use Rattle.rules.specs.Format.{pair_at, offset, limited, function, item_kinds, item_of, item, Accepted}
 use Rattle.rules.specs.View.{type_kind, function_kind, rows, kind, items, item_place, item_kind}
-use Rattle.rules.specs.View.{item_is, is_type, is_function, item_name, past, lifetimes_place, lifetime_count, lifetime, derives_place, derive_count, derive, rest}
+use Rattle.rules.specs.View.{item_is, is_type, is_function, item_name, past, lifetimes_place, lifetime_count, lifetime, derives_place, derive_count}
+use Rattle.rules.specs.View.{derive, rest}
 use Rattle.rules.specs.View.{field_count, field, enum_repr, enum_variants, enum_defaults, receiver_place, form, self_type, return_place, return, arg_count, arg}
 use Rattle.rules.specs.View.{impl_row}
 use Rattle.laws.specs.Kinds.{RowOrNone}
@@ -294,7 +295,8 @@ module _ (s : List ℕ) (acc : Accepted s) (i : ℕ) (l : i < items s) where
   unfolding item_of item_kinds
   opaque-size = by
     where
-      of : (k : ℕ) → type_kind k ≡ true → item_kind s i ≡ k → (p : ℕ) × (HeadAt s from × (p ≡ past s (past s (from + 2)))) × ((pair_at s p < 4) × (ending ≡ p + 2))
+      of : (k : ℕ) → type_kind k ≡ true → item_kind s i ≡ k
+          → (p : ℕ) × (HeadAt s from × (p ≡ past s (past s (from + 2)))) × ((pair_at s p < 4) × (ending ≡ p + 2))
           → ending ≡ item_place s i + 10 + 2 * lifetime_count s i + 2 * derive_count s i
       of k t e a = omega (arith, a.1.1 ∙ head-ends, a.2.1, rest-is (kind-type s i k e ∙ t))
 
@@ -319,7 +321,8 @@ module _ (s : List ℕ) (acc : Accepted s) (i : ℕ) (l : i < items s) where
           let q : ending ≡ past s (past s (item_place s i + 6) + 2 + 2 * pair_at s (past s (item_place s i + 6)) + 2) = rw there at h.ends in
           rw (lifetimes-far k e n) (omega arith)
 
-      by : (item_kind s i ≡ CxxFunction) ⊎ (item_kind s i ≡ RustFunction) → ending ≡ item_place s i + 14 + 2 * lifetime_count s i + 2 * form s i + 2 * arg_count s i
+      by : (item_kind s i ≡ CxxFunction) ⊎ (item_kind s i ≡ RustFunction)
+          → ending ≡ item_place s i + 14 + 2 * lifetime_count s i + 2 * form s i + 2 * arg_count s i
       by (inl e) = of 5 refl e (by_kind 5 (function-reads s (rows s) 8) refl e)
       by (inr e) = of 6 refl e (by_kind 6 (function-reads s (rows s) 4) refl e)
 

@@ -12,7 +12,8 @@ use borrow.Author.Tests.{ltb-true, leb-true, eqb-true}
 use Rattle.rules.specs.Numbers.{no_row}
 use Rattle.rules.specs.declared.Step.{Step}
 use Rattle.rules.specs.declared.Step.TheVariants.{Next, Refused}
-use Rattle.rules.specs.Format.{check, after, ◌>>◌, end, each, pair_at, offset, one, limited, or_none, times, list, type_head, repr, variants, receivers, receiver}
+use Rattle.rules.specs.Format.{check, after, ◌>>◌, end, each, pair_at, offset, one, limited, or_none, times, list, type_head, repr, variants, receivers}
+use Rattle.rules.specs.Format.{receiver}
 use Rattle.rules.specs.View.{kind, past, entry}
 use Rattle.laws.specs.Kinds.{RowOrNone}
 use Rattle.laws.proofs.Base.Tests.{or_is, both-are}

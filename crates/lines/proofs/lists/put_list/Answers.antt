@@ -13,7 +13,8 @@ pub loop-k-init : goal.loop-k-init
 loop-k-init c = (search rules, refl, search rules, start spaced _ _)
 
 pub loop-k-preserved : goal.loop-k-preserved
-loop-k-preserved c = (search rules, search rules, search rules, turn spaced c.args.list.now c.loop-k.k 0 (search rules) c.loop-k.invariant.3 c.put_byte-next.ensures.put)
+loop-k-preserved c =
+    (search rules, search rules, search rules, turn spaced c.args.list.now c.loop-k.k 0 (search rules) c.loop-k.invariant.3 c.put_byte-next.ensures.put)
 
 pub returns : goal.returns
 returns c =

@@ -12,7 +12,8 @@ use Rattle.lines.proofs.Parts.{end}
 use Rattle.lines.proofs.lists.put_list.Given as goal
 
 abbrev pub invariant-loop-k : goal.invariant-loop-k
-invariant-loop-k l = (l.k ≤ l.n) × (length l.out ≡ length l.initial.out) × (l.next ≤ l.at + 4 * l.k) × Put l.initial.out l.at (flat_map spaced (take l.k l.list)) l.next l.out
+invariant-loop-k l =
+    (l.k ≤ l.n) × (length l.out ≡ length l.initial.out) × (l.next ≤ l.at + 4 * l.k) × Put l.initial.out l.at (flat_map spaced (take l.k l.list)) l.next l.out
 
 abbrev pub decreases-loop-k : goal.decreases-loop-k
 decreases-loop-k l = l.n - l.k

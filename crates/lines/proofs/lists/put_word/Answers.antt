@@ -11,7 +11,12 @@ pub loop-k-init : goal.loop-k-init
 loop-k-init c = (search rules, refl, search rules, none _ _)
 
 pub loop-k-preserved : goal.loop-k-preserved
-loop-k-preserved c = (search rules, search rules, search rules, turn-word c.args.word.now c.loop-k.k (search rules) c.loop-k.invariant.3 c.put1-next.ensures.put)
+loop-k-preserved c =
+    (search rules, search rules, search rules, turn-word c.args.word.now c.loop-k.k (search rules) c.loop-k.invariant.3 c.put1-next.ensures.put)
 
 pub returns : goal.returns
-returns c = record { put = whole_word c.args.word.now c.loop-k.k c.loop-k.invariant.3 (end c.loop-k.k (length c.args.word.now) (search rules) (search rules)); upper_bound = search rules }
+returns c =
+    record {
+      put = whole_word c.args.word.now c.loop-k.k c.loop-k.invariant.3 (end c.loop-k.k (length c.args.word.now) (search rules) (search rules));
+      upper_bound = search rules;
+    }

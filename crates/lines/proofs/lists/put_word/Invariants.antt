@@ -10,7 +10,8 @@ use Rattle.lines.proofs.Parts.{end}
 use Rattle.lines.proofs.lists.put_word.Given as goal
 
 abbrev pub invariant-loop-k : goal.invariant-loop-k
-invariant-loop-k l = (l.k ≤ length l.word) × (length l.out ≡ length l.initial.out) × (l.next ≤ l.at + l.k) × Put l.initial.out l.at (take l.k l.word) l.next l.out
+invariant-loop-k l =
+    (l.k ≤ length l.word) × (length l.out ≡ length l.initial.out) × (l.next ≤ l.at + l.k) × Put l.initial.out l.at (take l.k l.word) l.next l.out
 
 abbrev pub decreases-loop-k : goal.decreases-loop-k
 decreases-loop-k l = length l.word - l.k

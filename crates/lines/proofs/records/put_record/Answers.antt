@@ -7,4 +7,8 @@ use Rattle.lines.proofs.records.put_record.Goals as goal
 
 pub returns : goal.returns
 unfolding record_line
-returns c = record { put = also (also (also c.put_message-a.ensures.put c.put_place-b.ensures.put) c.put_pair-c.ensures.put) c.put1.ensures.put; upper_bound = search rules }
+returns c =
+    record {
+      put = also (also (also c.put_message-a.ensures.put c.put_place-b.ensures.put) c.put_pair-c.ensures.put) c.put1.ensures.put;
+      upper_bound = search rules;
+    }

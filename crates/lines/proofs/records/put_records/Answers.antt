@@ -13,7 +13,8 @@ pub loop-k-init : goal.loop-k-init
 loop-k-init c = (search rules, refl, search rules, start record_line _ _)
 
 pub loop-k-preserved : goal.loop-k-preserved
-loop-k-preserved c = (search rules, search rules, search rules, turn record_line c.args.list c.loop-k.k _ (search rules) c.loop-k.invariant.3 c.put_record-next.ensures.put)
+loop-k-preserved c =
+    (search rules, search rules, search rules, turn record_line c.args.list c.loop-k.k _ (search rules) c.loop-k.invariant.3 c.put_record-next.ensures.put)
 
 pub returns : goal.returns
 returns c =

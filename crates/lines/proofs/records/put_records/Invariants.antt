@@ -12,7 +12,9 @@ use Rattle.lines.proofs.Parts.{end}
 use Rattle.lines.proofs.records.put_records.Given as goal
 
 abbrev pub invariant-loop-k : goal.invariant-loop-k
-invariant-loop-k l = (l.k ≤ l.n) × (length l.out ≡ length l.initial.out) × (l.next ≤ l.at + 22 * l.k) × Put l.initial.out l.at (flat_map record_line (take l.k l.list)) l.next l.out
+invariant-loop-k l =
+    (l.k ≤ l.n) × (length l.out ≡ length l.initial.out) × (l.next ≤ l.at + 22 * l.k)
+    × Put l.initial.out l.at (flat_map record_line (take l.k l.list)) l.next l.out
 
 abbrev pub decreases-loop-k : goal.decreases-loop-k
 decreases-loop-k l = l.n - l.k

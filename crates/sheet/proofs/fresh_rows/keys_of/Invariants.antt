@@ -10,7 +10,8 @@ use Rattle.sheet.proofs.FreshLaws.{key-go, key-end}
 use Rattle.sheet.proofs.fresh_rows.keys_of.Given as goal
 
 abbrev pub invariant-loop-left : goal.invariant-loop-left
-invariant-loop-left l = (key l.s (l.end - l.a) l.a 0 ≡ key l.s l.left l.i l.k) × (key l.s (l.end - l.a) l.a 11400714819323198485 ≡ key l.s l.left l.i l.m) × (l.left ≡ l.end - l.i)
+invariant-loop-left l =
+    (key l.s (l.end - l.a) l.a 0 ≡ key l.s l.left l.i l.k) × (key l.s (l.end - l.a) l.a 11400714819323198485 ≡ key l.s l.left l.i l.m) × (l.left ≡ l.end - l.i)
 
 abbrev pub decreases-loop-left : goal.decreases-loop-left
 decreases-loop-left l = l.left

@@ -11,7 +11,9 @@ use Rattle.typecheck.specs.Derives.{derived, all_derived}
 use Rattle.typecheck.proofs.derives.check_derives.Given as goal
 
 abbrev pub invariant-loop-j : goal.invariant-loop-j
-invariant-loop-j l = (length l.out ≡ length l.initial.out) × (l.j ≤ l.n) × Reported l.initial.out l.initial.e (over l.j (λ k. derived l.s l.owner l.i k (derive l.s l.i k))) l.e l.out
+invariant-loop-j l =
+    (length l.out ≡ length l.initial.out) × (l.j ≤ l.n)
+    × Reported l.initial.out l.initial.e (over l.j (λ k. derived l.s l.owner l.i k (derive l.s l.i k))) l.e l.out
 
 abbrev pub decreases-loop-j : goal.decreases-loop-j
 decreases-loop-j l = l.n - l.j

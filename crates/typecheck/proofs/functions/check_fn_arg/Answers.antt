@@ -24,5 +24,6 @@ pub returns : goal.returns
 unfolding function_arg when
 returns c =
     left _ _ (ne_eqb _ _ c.if-fault.false)
-    (left _ _ c.if-is.false (left _ _ (ne_eqb _ _ c.if-fault-eq0.false) (rw c.fault_at-fault.ensures at c.arg_error-2.ensures) (rw c.fault_at-fault.ensures)) c.is.ensures)
+    (left _ _ c.if-is.false (left _ _ (ne_eqb _ _ c.if-fault-eq0.false) (rw c.fault_at-fault.ensures at c.arg_error-2.ensures)
+    (rw c.fault_at-fault.ensures)) c.is.ensures)
     (rw c.fault_at-fault.ensures)

@@ -14,13 +14,16 @@ returns-then-not-has_return c = taken _ _ c.if-not-has_return.true-raw (silent _
 
 pub returns-then-fault-eq0 : goal.returns-then-fault-eq0
 unfolding function_return by_fault when
-returns-then-fault-eq0 c = left _ _ c.if-not-has_return.false-raw (taken _ _ (eq-eqb _ _ c.if-fault-eq0.true) (silent _ _) (rw (c.fault_at-fault.ensures, c.return_row.ensures))) (ap not c.has_return.ensures)
+returns-then-fault-eq0 c =
+    left _ _ c.if-not-has_return.false-raw (taken _ _ (eq-eqb _ _ c.if-fault-eq0.true) (silent _ _)
+    (rw (c.fault_at-fault.ensures, c.return_row.ensures))) (ap not c.has_return.ensures)
 
 pub returns-then-fault : goal.returns-then-fault
 unfolding function_return by_fault when
 returns-then-fault c =
     left _ _ c.if-not-has_return.false-raw
-    (left _ _ (ne_eqb _ _ c.if-fault-eq0.false) (taken _ _ (eq-eqb _ _ c.if-fault.true) c.return_error.ensures (rw (c.fault_at-fault.ensures, c.return_row.ensures)))
+    (left _ _ (ne_eqb _ _ c.if-fault-eq0.false)
+    (taken _ _ (eq-eqb _ _ c.if-fault.true) c.return_error.ensures (rw (c.fault_at-fault.ensures, c.return_row.ensures)))
     (rw (c.fault_at-fault.ensures, c.return_row.ensures)))
     (ap not c.has_return.ensures)
 

@@ -17,11 +17,13 @@ pub returns-then-not-is_generic : goal.returns-then-not-is_generic
 unfolding check_impl_self when
 returns-then-not-is_generic c =
     λ t.
-    left _ _ c.if-impl_negative.false (taken _ _ c.if-not-is_generic.true-raw c.item_error-then-not-is_generic.ensures (ap not (rw c.impl_row-r.ensures at c.is_generic.ensures))) c.impl_negative.ensures
+    left _ _ c.if-impl_negative.false (taken _ _ c.if-not-is_generic.true-raw c.item_error-then-not-is_generic.ensures
+    (ap not (rw c.impl_row-r.ensures at c.is_generic.ensures))) c.impl_negative.ensures
 
 pub returns : goal.returns
 unfolding check_impl_self
 returns c =
     λ t.
-    left _ _ c.if-impl_negative.false (left _ _ c.if-not-is_generic.false-raw (meant-if _ c.item_error-2.ensures (rw c.impl_row-r.ensures at c.is_atom_target.ensures))
+    left _ _ c.if-impl_negative.false (left _ _ c.if-not-is_generic.false-raw
+    (meant-if _ c.item_error-2.ensures (rw c.impl_row-r.ensures at c.is_atom_target.ensures))
     (ap not (rw c.impl_row-r.ensures at c.is_generic.ensures))) c.impl_negative.ensures

@@ -15,12 +15,14 @@ returns-then-function_unsafe c = taken _ _ c.if-function_unsafe.true (silent _ _
 
 pub returns-then-not-returns_mut : goal.returns-then-not-returns_mut
 unfolding check_mut_return_restriction
-returns-then-not-returns_mut c = left _ _ c.if-function_unsafe.false (taken _ _ c.if-not-returns_mut.true-raw (silent _ _) (ap not (c.returns_mut.ensures _))) c.function_unsafe.ensures
+returns-then-not-returns_mut c =
+    left _ _ c.if-function_unsafe.false (taken _ _ c.if-not-returns_mut.true-raw (silent _ _) (ap not (c.returns_mut.ensures _))) c.function_unsafe.ensures
 
 pub returns-then-may_receiver_lend : goal.returns-then-may_receiver_lend
 unfolding check_mut_return_restriction
 returns-then-may_receiver_lend c =
-    left _ _ c.if-function_unsafe.false (left _ _ c.if-not-returns_mut.false-raw (taken _ _ c.if-may_receiver_lend.true (silent _ _) c.may_receiver_lend.ensures) (ap not (c.returns_mut.ensures _)))
+    left _ _ c.if-function_unsafe.false (left _ _ c.if-not-returns_mut.false-raw
+    (taken _ _ c.if-may_receiver_lend.true (silent _ _) c.may_receiver_lend.ensures) (ap not (c.returns_mut.ensures _)))
     c.function_unsafe.ensures
 
 pub returns : goal.returns
@@ -29,6 +31,7 @@ returns c =
     let args-below = ((item-of _ c.requires.accepted _ c.requires.below).as_function c.requires.function).arg-below in
     let found = (rw c.args_place.ensures at c.any_marked_in-found.ensures) ∙ any-args _ _ _ _ c.requires.muts_right args-below in
     left _ _ c.if-function_unsafe.false
-    (left _ _ c.if-not-returns_mut.false-raw (left _ _ c.if-may_receiver_lend.false (meant-if _ c.item_error.ensures (ap not found)) c.may_receiver_lend.ensures)
+    (left _ _ c.if-not-returns_mut.false-raw (left _ _ c.if-may_receiver_lend.false (meant-if _ c.item_error.ensures (ap not found))
+    c.may_receiver_lend.ensures)
     (ap not (c.returns_mut.ensures _)))
     c.function_unsafe.ensures

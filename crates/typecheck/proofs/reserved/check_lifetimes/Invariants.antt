@@ -12,7 +12,9 @@ use Rattle.typecheck.specs.Tests.{reserved_lifetime}
 use Rattle.typecheck.proofs.reserved.check_lifetimes.Given as goal
 
 abbrev pub invariant-loop-j : goal.invariant-loop-j
-invariant-loop-j l = (length l.out ≡ length l.initial.out) × (l.j ≤ l.n) × Reported l.initial.out l.initial.e (over l.j (λ k. reserved_lifetime l.i k (lifetime l.s l.i k))) l.e l.out
+invariant-loop-j l =
+    (length l.out ≡ length l.initial.out) × (l.j ≤ l.n)
+    × Reported l.initial.out l.initial.e (over l.j (λ k. reserved_lifetime l.i k (lifetime l.s l.i k))) l.e l.out
 
 abbrev pub decreases-loop-j : goal.decreases-loop-j
 decreases-loop-j l = l.n - l.j

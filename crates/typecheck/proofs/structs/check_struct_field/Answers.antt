@@ -13,7 +13,8 @@ returns-then-fault-eq0 c = taken _ _ (eq-eqb _ _ c.if-fault-eq0.true) (silent _ 
 
 pub returns-then-fault-eq-FN_FAULT : goal.returns-then-fault-eq-FN_FAULT
 unfolding by_fault when
-returns-then-fault-eq-FN_FAULT c = left _ _ (ne_eqb _ _ c.if-fault-eq0.false) (taken _ _ (eq-eqb _ _ c.if-fault-eq-FN_FAULT.true) c.field_error.ensures refl) refl
+returns-then-fault-eq-FN_FAULT c =
+    left _ _ (ne_eqb _ _ c.if-fault-eq0.false) (taken _ _ (eq-eqb _ _ c.if-fault-eq-FN_FAULT.true) c.field_error.ensures refl) refl
 
 pub returns : goal.returns
 unfolding by_fault when

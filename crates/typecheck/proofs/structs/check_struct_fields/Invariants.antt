@@ -11,7 +11,9 @@ use Rattle.typecheck.proofs.Faulty.{FaultsLeft, field_says, fields_in, all_left,
 use Rattle.typecheck.proofs.structs.check_struct_fields.Given as goal
 
 abbrev pub invariant-loop-left : goal.invariant-loop-left
-invariant-loop-left l = (length l.out ≡ length l.initial.out) × FaultsLeft l.s l.faults l.i l.at l.n l.k l.left × Reported l.initial.out l.initial.e (over l.k (field_says l.s l.faults l.i)) l.e l.out
+invariant-loop-left l =
+    (length l.out ≡ length l.initial.out) × FaultsLeft l.s l.faults l.i l.at l.n l.k l.left
+    × Reported l.initial.out l.initial.e (over l.k (field_says l.s l.faults l.i)) l.e l.out
 
 abbrev pub decreases-loop-left : goal.decreases-loop-left
 decreases-loop-left l = l.n - l.k

@@ -66,6 +66,9 @@ returns-in-12 c = meant (c.check_type_fn.ensures _) (by_kind _ _ _ (sym c.in-12.
 pub returns-in_default : goal.returns-in_default
 returns-in_default c =
     meant (silent _ _) (nothing _ _ _ _ c.in_default.in_default-own.rest.0.0.0.0.0.0.0.0.0.0.0.1
-    c.in_default.in_default-own.rest.0.0.0.0.0.0.0.0.0.0.1 c.in_default.in_default-own.rest.0.0.0.0.0.0.0.0.0.1 c.in_default.in_default-own.rest.0.0.0.0.0.0.0.0.1
-    c.in_default.in_default-own.rest.0.0.0.0.0.0.0.1 c.in_default.in_default-own.rest.0.0.0.0.0.0.1 c.in_default.in_default-own.rest.0.0.0.0.0.1 c.in_default.in_default-own.rest.0.0.0.0.1
-    c.in_default.in_default-own.rest.0.0.0.1 c.in_default.in_default-own.rest.0.0.1 c.in_default.in_default-own.rest.0.1 c.in_default.in_default-own.rest.1 ∙ by_kind _ _ _ c.kind.ensures)
+    c.in_default.in_default-own.rest.0.0.0.0.0.0.0.0.0.0.1 c.in_default.in_default-own.rest.0.0.0.0.0.0.0.0.0.1
+    c.in_default.in_default-own.rest.0.0.0.0.0.0.0.0.1
+    c.in_default.in_default-own.rest.0.0.0.0.0.0.0.1 c.in_default.in_default-own.rest.0.0.0.0.0.0.1 c.in_default.in_default-own.rest.0.0.0.0.0.1
+    c.in_default.in_default-own.rest.0.0.0.0.1
+    c.in_default.in_default-own.rest.0.0.0.1 c.in_default.in_default-own.rest.0.0.1 c.in_default.in_default-own.rest.0.1
+    c.in_default.in_default-own.rest.1 ∙ by_kind _ _ _ c.kind.ensures)

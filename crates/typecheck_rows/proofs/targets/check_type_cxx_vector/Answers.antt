@@ -11,4 +11,5 @@ returns-then-is_rust_target c = taken _ _ c.if-is_rust_target.true c.row_error.e
 
 pub returns : goal.returns
 unfolding check_type_cxx_vector when
-returns c = left _ _ c.if-is_rust_target.false ((unless {x = c.is_vector_element.result} _ c.row_error-2.ensures c.is_vector_element.ensures)) c.is_rust_target.ensures
+returns c =
+    left _ _ c.if-is_rust_target.false ((unless {x = c.is_vector_element.result} _ c.row_error-2.ensures c.is_vector_element.ensures)) c.is_rust_target.ensures

@@ -13,12 +13,14 @@ returns-then-is_opaque_target c = taken _ _ c.if-is_opaque_target.true c.row_err
 
 pub returns-then-is_vec_element : goal.returns-then-is_vec_element
 unfolding check_type_rust_vec when
-returns-then-is_vec_element c = left _ _ c.if-is_opaque_target.false (taken _ _ c.if-is_vec_element.true (silent _ _) c.is_vec_element.ensures) c.is_opaque_target.ensures
+returns-then-is_vec_element c =
+    left _ _ c.if-is_opaque_target.false (taken _ _ c.if-is_vec_element.true (silent _ _) c.is_vec_element.ensures) c.is_opaque_target.ensures
 
 pub returns-then-target_is : goal.returns-then-target_is
 unfolding check_type_rust_vec when
 returns-then-target_is c =
-    left _ _ c.if-is_opaque_target.false (left _ _ c.if-is_vec_element.false (taken _ _ c.if-target_is.true (silent _ _) c.target_is.ensures) c.is_vec_element.ensures)
+    left _ _ c.if-is_opaque_target.false (left _ _ c.if-is_vec_element.false (taken _ _ c.if-target_is.true (silent _ _) c.target_is.ensures)
+    c.is_vec_element.ensures)
     c.is_opaque_target.ensures
 
 pub returns-then-is : goal.returns-then-is

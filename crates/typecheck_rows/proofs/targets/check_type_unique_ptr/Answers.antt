@@ -11,7 +11,8 @@ returns-then-is_rust_target c = taken _ _ c.if-is_rust_target.true c.row_error.e
 
 pub returns-then-is_unique_target : goal.returns-then-is_unique_target
 unfolding check_type_unique_ptr when
-returns-then-is_unique_target c = left _ _ c.if-is_rust_target.false (taken _ _ c.if-is_unique_target.true (silent _ _) c.is_unique_target.ensures) c.is_rust_target.ensures
+returns-then-is_unique_target c =
+    left _ _ c.if-is_rust_target.false (taken _ _ c.if-is_unique_target.true (silent _ _) c.is_unique_target.ensures) c.is_rust_target.ensures
 
 pub returns : goal.returns
 unfolding check_type_unique_ptr when

@@ -21,7 +21,8 @@ duplicate_function-requires c = record {
 }
 
 pub returns-then-function_kind : goal.returns-then-function_kind
-returns-then-function_kind c = of_function c.requires.item c.type_kind.ensures c.if-type_kind.false c.function_kind.ensures c.if-function_kind.true c.duplicate_function.ensures
+returns-then-function_kind c =
+    of_function c.requires.item c.type_kind.ensures c.if-type_kind.false c.function_kind.ensures c.if-function_kind.true c.duplicate_function.ensures
 
 pub returns : goal.returns
 returns c = of_other c.requires.item c.type_kind.ensures c.if-type_kind.false c.function_kind.ensures c.if-function_kind.false

@@ -12,5 +12,6 @@ is_known-requires c = rw (c.key-at.ensures c.requires.name) (key-small _ c.requi
 
 pub returns : goal.returns
 returns c =
-    c.is_known.ensures ∙ function-known _ c.requires.accepted _ c.requires.below c.requires.is_function (sym c.of_self.ensures ∙ c.if-of_self.false) c.requires.keys
+    c.is_known.ensures ∙ function-known _ c.requires.accepted _ c.requires.below c.requires.is_function (sym c.of_self.ensures ∙ c.if-of_self.false)
+    c.requires.keys
     (c.key-at.ensures c.requires.name)

@@ -15,7 +15,10 @@ returns-then-of_self c =
     c.requires.keys
 
 pub learn-requires : goal.learn-requires
-learn-requires c = rw (c.key-at.ensures c.requires.item.name) (key-small _ c.requires.item.accepted _ c.requires.item.below (sym (is_function_lem c.requires.item c.function_kind.ensures) ∙ c.if-not-function_kind.false))
+learn-requires c =
+    rw (c.key-at.ensures c.requires.item.name)
+    (key-small _ c.requires.item.accepted _ c.requires.item.below
+    (sym (is_function_lem c.requires.item c.function_kind.ensures) ∙ c.if-not-function_kind.false))
 
 pub returns : goal.returns
 returns c =

@@ -6,7 +6,12 @@ use Rattle.types.proofs.Showing.{place-small, args-inside, fields-inside, is_fun
 use Rattle.types.proofs.reasons.insist_item.Goals as goal
 
 pub insist_list-requires : goal.insist_list-requires
-insist_list-requires c = record { wants = c.requires.wants; inside = fields-inside _ c.requires.accepted _ c.requires.below c.item_kind-k.ensures c.if-k-eq-STRUCT.true c.rest.ensures }
+insist_list-requires c =
+    record {
+      wants = c.requires.wants;
+      inside = fields-inside _ c.requires.accepted _ c.requires.below c.item_kind-k.ensures c.if-k-eq-STRUCT.true
+          c.rest.ensures;
+    }
 
 pub returns-then-k-eq-STRUCT : goal.returns-then-k-eq-STRUCT
 returns-then-k-eq-STRUCT c = item-fields _ _ _ c.item_kind-k.ensures c.if-k-eq-STRUCT.true c.rest.ensures c.insist_list.ensures

@@ -27,8 +27,11 @@ loop-j-smaller c = omega (arith, c.loop-j-test.true)
 pub loop-j-preserved : goal.loop-j-preserved
 loop-j-preserved c =
     let row = entry c.args.s.now c.args.at c.loop-j.j in
-    let q = tally-by c.args.s.now (λ f. insist c.args.s.now f row) c.loop-j.invariant.1 (rw c.entry_within.ensures at c.insist.ensures) in
-    (omega (arith, c.loop-j-test.true), over-more (λ j. of_plain c.args.s.now c.args.names.now (entry c.args.s.now c.args.at j)) c.loop-j.j c.loop-j.invariant.1 q)
+    let q = tally-by c.args.s.now (λ f. insist c.args.s.now f row) c.loop-j.invariant.1 (rw c.entry_within.ensures at c.insist.ensures) in (
+      omega (arith, c.loop-j-test.true),
+      over-more (λ j. of_plain c.args.s.now c.args.names.now (entry c.args.s.now c.args.at j)) c.loop-j.j
+          c.loop-j.invariant.1 q,
+    )
 
 pub returns : goal.returns
 returns c =

@@ -25,8 +25,11 @@ loop-k-smaller c = omega (arith, c.loop-k-test.true)
 pub loop-k-preserved : goal.loop-k-preserved
 loop-k-preserved c =
     let q = tally-by c.args.s.now (λ f. reasons_of_row c.args.s.now f (pair_at c.args.scratch.now (2 * c.loop-k.k))) c.loop-k.invariant.1
-    (rw c.row_at.ensures at c.insist_row.ensures) in
-    (omega (arith, c.loop-k-test.true), over-more (λ j. of_row c.args.s.now c.args.names.now (pair_at c.args.scratch.now (2 * j))) c.loop-k.k c.loop-k.invariant.1 q)
+    (rw c.row_at.ensures at c.insist_row.ensures) in (
+      omega (arith, c.loop-k-test.true),
+      over-more (λ j. of_row c.args.s.now c.args.names.now (pair_at c.args.scratch.now (2 * j))) c.loop-k.k
+          c.loop-k.invariant.1 q,
+    )
 
 pub returns : goal.returns
 returns c =

@@ -10,7 +10,9 @@ use Rattle.types.proofs.Counting.{all_nothing, tally-by, tally-then, wants-same}
 use Rattle.types.proofs.reasons.required_trivial_reasons.Goals as goal
 
 pub returns-then-no_cxx : goal.returns-then-no_cxx
-returns-then-no_cxx c = all_nothing c.args.s.now c.args.names.now (λ r. nothing-wanted c.args.s.now (tabled c.args.s.now c.args.names.now) r (c.no_cxx.ensures c.if-no_cxx.true c.args.s.now)) c.args.scratch.now c.args.n
+returns-then-no_cxx c =
+    all_nothing c.args.s.now c.args.names.now
+    (λ r. nothing-wanted c.args.s.now (tabled c.args.s.now c.args.names.now) r (c.no_cxx.ensures c.if-no_cxx.true c.args.s.now)) c.args.scratch.now c.args.n
 
 pub insist_items-requires : goal.insist_items-requires
 insist_items-requires c = record { wants = c.wants-wants.ensures; accepted = c.requires }
@@ -19,4 +21,6 @@ pub insist_rows-requires : goal.insist_rows-requires
 insist_rows-requires c = wants-same c.args.s.now c.wants-wants.result c.insist_items.ensures c.wants-wants.ensures
 
 pub returns : goal.returns
-returns c = tally-then c.insist_items.ensures (tally-by c.args.s.now (λ f. over c.args.n (λ k. reasons_of_row c.args.s.now f (pair_at c.args.scratch.now (2 * k)))) c.insist_items.ensures c.insist_rows.ensures)
+returns c =
+    tally-then c.insist_items.ensures (tally-by c.args.s.now
+    (λ f. over c.args.n (λ k. reasons_of_row c.args.s.now f (pair_at c.args.scratch.now (2 * k)))) c.insist_items.ensures c.insist_rows.ensures)

@@ -26,13 +26,19 @@ returns-then-enum_kind c =
     repr-walk _ c.item_kind-k.ensures e c.enum_repr-repr.ensures l c.visit_type.ensures
 
 pub visit_function-requires : goal.visit_function-requires
-visit_function-requires c = record { ready = c.requires; is_function = is_function_lem _ _ c.item_kind-k.ensures c.function_kind.ensures c.if-function_kind.true }
+visit_function-requires c =
+    record { ready = c.requires; is_function = is_function_lem _ _ c.item_kind-k.ensures c.function_kind.ensures c.if-function_kind.true }
 
 pub returns-then-function_kind : goal.returns-then-function_kind
 returns-then-function_kind c = function-shown _ c.item_kind-k.ensures c.function_kind.ensures c.if-function_kind.true c.visit_function.ensures
 
 pub visit_type-requires-then-k-eq-IMPL : goal.visit_type-requires-then-k-eq-IMPL
-visit_type-requires-then-k-eq-IMPL c = record { walk = c.requires.walk; below = impl-below _ c.requires.walk.accepted _ c.requires.below c.item_kind-k.ensures c.if-k-eq-IMPL.true c.impl_row-row.ensures }
+visit_type-requires-then-k-eq-IMPL c =
+    record {
+      walk = c.requires.walk;
+      below = impl-below _ c.requires.walk.accepted _ c.requires.below c.item_kind-k.ensures c.if-k-eq-IMPL.true
+          c.impl_row-row.ensures;
+    }
 
 pub returns-then-k-eq-IMPL : goal.returns-then-k-eq-IMPL
 returns-then-k-eq-IMPL c =

@@ -24,7 +24,8 @@ pub loop-i-smaller : goal.loop-i-smaller
 loop-i-smaller c = omega (arith, c.loop-i-test.true)
 
 pub loop-i-preserved : goal.loop-i-preserved
-loop-i-preserved c = (c.visit_item-n.auto.scratch ∙ c.loop-i.invariant.0, omega (arith, c.loop-i-test.true), items_more c.loop-i.i c.loop-i.invariant.2 c.visit_item-n.ensures)
+loop-i-preserved c =
+    (c.visit_item-n.auto.scratch ∙ c.loop-i.invariant.0, omega (arith, c.loop-i-test.true), items_more c.loop-i.i c.loop-i.invariant.2 c.visit_item-n.ensures)
 
 pub shape_of-scratch : goal.shape_of-scratch
 shape_of-scratch c = c.loop-i.invariant.0

@@ -10,7 +10,8 @@ use Rattle.types.specs.Walk.{Walks}
 use Rattle.types.proofs.rows.visit_items.Given as goal
 
 abbrev pub invariant-loop-i : goal.invariant-loop-i
-invariant-loop-i l = (length l.scratch ≡ length l.initial.scratch) × (l.i ≤ l.count) × Walks l.s l.initial.scratch l.scratch 0 (rows l.s) (over l.i (shown_by l.s)) l.n
+invariant-loop-i l =
+    (length l.scratch ≡ length l.initial.scratch) × (l.i ≤ l.count) × Walks l.s l.initial.scratch l.scratch 0 (rows l.s) (over l.i (shown_by l.s)) l.n
 
 abbrev pub decreases-loop-i : goal.decreases-loop-i
 decreases-loop-i l = l.count - l.i

@@ -26,8 +26,11 @@ loop-j-smaller c = omega (arith, c.loop-j-test.true)
 
 pub loop-j-preserved : goal.loop-j-preserved
 loop-j-preserved c =
-    let x = c.requires.below c.loop-j.j (omega (arith, c.pair_at-count.ensures)) in
-    (c.show-m.auto.scratch ∙ c.loop-j.invariant.0, omega arith, to-more _ c.loop-j.j c.loop-j.invariant.2 c.entry_within-row.ensures (omega arith) c.show-m.ensures)
+    let x = c.requires.below c.loop-j.j (omega (arith, c.pair_at-count.ensures)) in (
+      c.show-m.auto.scratch ∙ c.loop-j.invariant.0,
+      omega arith,
+      to-more _ c.loop-j.j c.loop-j.invariant.2 c.entry_within-row.ensures (omega arith) c.show-m.ensures,
+    )
 
 pub shape_of-scratch : goal.shape_of-scratch
 shape_of-scratch c = c.loop-j.invariant.0

@@ -9,7 +9,8 @@ use Rattle.types.proofs.Walking.{first_rows}
 use Rattle.types.proofs.rows.visit_list.Given as goal
 
 abbrev pub invariant-loop-j : goal.invariant-loop-j
-invariant-loop-j l = (length l.scratch ≡ length l.initial.scratch) × (l.j ≤ l.count) × Walks l.s l.initial.scratch l.scratch l.n (rows l.s) (first_rows l.s l.at l.j) l.m
+invariant-loop-j l =
+    (length l.scratch ≡ length l.initial.scratch) × (l.j ≤ l.count) × Walks l.s l.initial.scratch l.scratch l.n (rows l.s) (first_rows l.s l.at l.j) l.m
 
 abbrev pub decreases-loop-j : goal.decreases-loop-j
 decreases-loop-j l = l.count - l.j

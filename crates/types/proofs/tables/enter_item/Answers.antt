@@ -18,6 +18,7 @@ returns c =
     let p₃ = enter-next cxx_set (omega arith) c.requires.item p₂ (is-cxx c.requires.item c.or-cxx.ensures) refl c.enter_if-3.ensures in
     let p₄ = enter-next rust_set (omega arith) c.requires.item p₃ (is-rust c.requires.item) refl c.enter_if-4.ensures in
     let p₅ = enter-next alias_set (omega arith) c.requires.item p₄ (is-alias c.requires.item) refl c.enter_if-5.ensures in
-    let p₆ = enter-next untrusted_set (omega arith) c.requires.item p₅ (is-untrusted c.requires.item c.type_trusted.ensures c.and-untrusted.ensures) refl c.enter_if-6.ensures in
+    let p₆ = enter-next untrusted_set (omega arith) c.requires.item p₅ (is-untrusted c.requires.item c.type_trusted.ensures c.and-untrusted.ensures)
+    refl c.enter_if-6.ensures in
     let p₇ = enter-none required_trivial_set (omega arith) refl p₆ in
     enter-last (enter-next type_column (omega arith) c.requires.item p₇ (is-type c.requires.item c.type_kind.ensures) refl c.enter_if-7.ensures)
