@@ -1,10 +1,10 @@
 -- An answer made of its parts is the one that the rules give: a set by its words, a size by its set, the reasons one after another.
 -- Assumes nothing.
-use mathlib.Core.Path.{◌≡◌, refl, sym, ◌∙◌, ap}
+use mathlib.Core.Path.{◌≡◌, refl, ◌∙◌, ap}
 use Prim.Native.Nat.{ℕ, ◌+◌, ◌<◌}
 use native.Mathlib.Omega.{arith}
 use mathlib.Core.List.{List, [], ◌∷◌, ◌++◌, append-nil}
-use lib.ListN.{length, get_or, take, drop, set, replicate, length-replicate, drop_of_length-le}
+use lib.ListN.{length, get_or, take, set, replicate, length-replicate, drop_of_length-le}
 use lib.Seq.{sets, sets-eq, take_all, length-take-le}
 use Rattle.rules.specs.Numbers.{name_count, set_count, most_items, struct_set, enum_set, cxx_set, rust_set, alias_set, untrusted_set, required_trivial_set}
 use Rattle.rules.specs.declared.Verdict.TheVariants.{Accepted, Refused}

@@ -13,9 +13,6 @@ use Rattle.rules.specs.declared.Step.{Step}
 use Rattle.rules.specs.declared.Step.TheVariants.{Next, Refused}
 use Rattle.rules.specs.declared.Answer.{Answer}
 use Rattle.rules.specs.declared.Diagnostic.{Diagnostic}
-use Rattle.rules.specs.Diagnostics.{bit}
-use Rattle.rules.specs.View.{items, item_is}
-use Rattle.rules.specs.Collect.{structs_to}
 use Rattle.rules.specs.Report.{report}
 use Rattle.rules.specs.Answer.{refused, read_with, call}
 use Rattle.rules.specs.Text.{printed, text_of, sheet_text}

@@ -1,10 +1,9 @@
 -- The fields of a struct, as a list that stands in the sheet and has no more entries than a word has bits.
 -- Assumes nothing.
-use Prim.Native.Nat.{ℕ, ◌<◌, ◌≤◌, ◌+◌, ◌*◌}
+use Prim.Native.Nat.{ℕ, ◌<◌}
 use mathlib.Core.Path.{◌≡◌}
 use mathlib.Core.List.{List}
 use native.Mathlib.Omega.{arith}
-use lib.ListN.{length}
 use Rattle.rules.specs.Numbers.{most_rows}
 use Rattle.rules.specs.Format.{Accepted}
 use Rattle.rules.specs.View.{rest, field_count, field, entry, rows}

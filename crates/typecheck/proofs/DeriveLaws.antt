@@ -1,13 +1,12 @@
 -- A derive of an enum, by the one test that the code makes first: Default is not ExternType, so that the other message is not given.
 -- Assumes nothing.
 use Prim.Native.Nat.{ℕ}
-use mathlib.Core.Path.{◌≡◌, refl, sym}
+use mathlib.Core.Path.{◌≡◌, sym}
 use mathlib.Core.List.{List, append-nil}
-use mathlib.Core.Bool.{Bool, false, not}
+use mathlib.Core.Bool.{false, not}
 use lib.Dec.{eqb}
 use Rattle.rules.specs.Numbers.{Default, ExternType}
 use Rattle.rules.specs.declared.Place.TheVariants.{D}
-use Rattle.rules.specs.declared.Diagnostic.{Diagnostic}
 use Rattle.rules.specs.Diagnostics.{say, tell, when}
 use Rattle.rules.specs.View.{enum_defaults}
 use Rattle.typecheck.specs.Derives.{enum_derive}

@@ -21,7 +21,7 @@ use Rattle.laws.specs.RowTable.{read_at}
 use Rattle.laws.proofs.Sheet.Accepted.Items.{FunctionOf}
 use Rattle.row_tables.specs.Tables.{FaultRows}
 use Rattle.row_tables.proofs.FaultLaws.{fault-read}
-use Rattle.typecheck.specs.Tests.{by_fault, struct_field, struct_fields, function_of, function_arg, function_args, function_return}
+use Rattle.typecheck.specs.Tests.{struct_field, struct_fields, function_of, function_arg, function_args, function_return}
 use Rattle.typecheck.proofs.Faults.{row-says, row-says-after}
 
 over-same : (n : ℕ) (f g : ℕ → List Diagnostic) → ((k : ℕ) → k < n → f k ≡ g k) → over n f ≡ over n g

@@ -1,6 +1,6 @@
 -- The derives of an item, by what it is: in the code one loop for the four checks of check.rs.
 -- Assumes nothing: these are definitions.
-use Rattle.std.specs.Prelude.{ℕ, List, ◌++◌, Bool, not, ◌&&◌, eqb}
+use Rattle.std.specs.Prelude.{ℕ, List, ◌++◌, not, ◌&&◌, eqb}
 use Rattle.rules.specs.Numbers.{RustType, Default, is_bit, ExternType}
 use Rattle.rules.specs.declared.Place.TheVariants.{D}
 use Rattle.rules.specs.declared.Diagnostic.{Diagnostic}

@@ -1,10 +1,9 @@
-use mathlib.Core.Path.{◌≡◌, sym, ◌∙◌, ap, subst}
-use Prim.Native.Nat.{ℕ, ◌+◌, ◌-◌, ◌/◌, ◌≤◌, ◌<◌}
+use mathlib.Core.Path.{◌≡◌, sym, ◌∙◌, ap}
+use Prim.Native.Nat.{◌-◌, ◌/◌, ◌<◌}
 use mathlib.Core.List.{List}
 use lib.ListN.{length, set}
 use native.Mathlib.Omega.{arith}
 use Rattle.rules.specs.declared.Diagnostic.{Diagnostic}
-use Rattle.windows.specs.Windows.{least3}
 use Rattle.windows.proofs.Windows.{least3-le}
 use Rattle.windows.proofs.Stores.{over-start, over-one, over-end}
 use Rattle.bridge.proofs.store.Goals as goal

@@ -1,5 +1,4 @@
 -- `bridge_core::run` meets its contract, by whether the reader refuses. Assumes nothing.
-use borrow.Author.Rules.{rules}
 use mathlib.Core.Path.{sym, ◌∙◌}
 use Rattle.bridge_core.proofs.RunCases.{ran-refused, ran-accepted, runnable}
 use Rattle.bridge_core.proofs.run.Goals as goal

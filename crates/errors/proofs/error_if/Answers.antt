@@ -4,7 +4,6 @@ use borrow.Author.Tests.{not-true, not-false}
 use mathlib.Core.Bool.{true, false}
 use mathlib.Core.Path.{◌≡◌, refl}
 use Rattle.rules.specs.Base.{if◌then◌else◌}
-use borrow.Author.Rules.{rules}
 use Rattle.errors.proofs.error_if.Goals as goal
 
 pub returns-then-not-yes : goal.returns-then-not-yes

@@ -1,7 +1,6 @@
 -- `errors::keep` meets its contract: before the window nothing is stored, and past its end nothing. Assumes nothing.
 use mathlib.Core.Path.{◌∙◌}
 use Rattle.errors.proofs.Laws.{keep-in, keep_out, keep-past}
-use borrow.Author.Rules.{rules}
 use Rattle.errors.proofs.keep.Goals as goal
 
 pub returns-then-n-from : goal.returns-then-n-from

@@ -1,6 +1,5 @@
 -- `errors::next` meets its contract, by the two cases of the count. Assumes nothing.
 use Rattle.errors.proofs.Laws.{next_more, next-full}
-use borrow.Author.Rules.{rules}
 use Rattle.errors.proofs.next.Goals as goal
 
 pub returns-then-n-lt4294967296 : goal.returns-then-n-lt4294967296

@@ -1,7 +1,6 @@
 -- `improper::hits` meets its contract: a name hits where it is in the set, any other look where it is improper.
 -- Assumes nothing.
 use mathlib.Core.Path.{◌∙◌}
-use borrow.Author.Rules.{rules}
 use Rattle.improper.proofs.PassTurns.{hits-name, hits-code}
 use Rattle.improper.proofs.hits.Goals as goal
 

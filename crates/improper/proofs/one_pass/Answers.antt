@@ -1,14 +1,11 @@
-use Prim.Native.Nat.{ℕ, ◌-◌, ◌≤◌, ◌<◌}
+use Prim.Native.Nat.{◌<◌}
 use mathlib.Core.Path.{◌≡◌, refl, sym, ap, subst, ◌∙◌}
 use mathlib.Core.Bool.{true, false}
-use mathlib.Core.List.{List}
 use native.Mathlib.Omega.{arith}
-use borrow.Author.Rules.{rules}
 use Rattle.rules.specs.declared.NameSet.{NameSet}
 use Rattle.rules.specs.Types.{types_of}
 use Rattle.rules.specs.Improper.{looks_fields, looks_look, hits}
-use Rattle.improper.specs.Post.{Passes}
-use Rattle.improper.proofs.PassTurns.{FieldsOf, fields-none, fields-of}
+use Rattle.improper.proofs.PassTurns.{fields-none, fields-of}
 use Rattle.improper.proofs.PassTurns.{found_in, found-start, found-on, found-hit, passes_none, passes-had, passes-not, passes-new}
 use Rattle.improper.proofs.Later.{still-out, skipped}
 use Rattle.improper.proofs.one_pass.Goals as goal

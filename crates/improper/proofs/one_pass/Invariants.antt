@@ -2,19 +2,12 @@
 -- set is as it was, and the fields are those of the name's last struct. A name that is skipped would not have been found. The measures are what is left of
 -- the names, and of the fields.
 -- Assumes nothing.
-use Prim.Native.Nat.{ℕ, ◌-◌, ◌≤◌, ◌<◌}
-use mathlib.Core.Path.{◌≡◌, refl, sym, ap, subst, ◌∙◌}
-use mathlib.Core.Bool.{true, false}
-use mathlib.Core.List.{List}
-use native.Mathlib.Omega.{arith}
-use borrow.Author.Rules.{rules}
-use Rattle.rules.specs.declared.NameSet.{NameSet}
-use Rattle.rules.specs.Types.{types_of}
-use Rattle.rules.specs.Improper.{looks_fields, looks_look, hits}
+use Prim.Native.Nat.{◌-◌, ◌≤◌}
+use mathlib.Core.Path.{◌≡◌}
+use mathlib.Core.Bool.{false}
 use Rattle.improper.specs.Post.{Passes}
-use Rattle.improper.proofs.PassTurns.{FieldsOf, fields-none, fields-of}
-use Rattle.improper.proofs.PassTurns.{found_in, found-start, found-on, found-hit, passes_none, passes-had, passes-not, passes-new}
-use Rattle.improper.proofs.Later.{still-out, skipped}
+use Rattle.improper.proofs.PassTurns.{FieldsOf}
+use Rattle.improper.proofs.PassTurns.{found_in}
 use Rattle.improper.proofs.one_pass.Given as goal
 
 abbrev pub invariant-loop-k : goal.invariant-loop-k

@@ -2,16 +2,10 @@
 -- holds. The measure is the number of names that are not found, and one more while a pass is due.
 -- Assumes nothing.
 use Prim.Native.Nat.{◌+◌}
-use mathlib.Core.Path.{refl, sym, ap}
-use lib.ListN.{length}
-use borrow.Author.Rules.{rules}
-use borrow.Author.Tests.{not-true}
 use Rattle.rules.specs.Diagnostics.{bit}
-use Rattle.laws.proofs.Base.Tests.{never}
 use Rattle.laws.proofs.Names.ImproperSearch.{left}
 use Rattle.improper.specs.Targets.{Later}
-use Rattle.improper.proofs.Passes.{Searching, searching-start, searching-on, searching-less, searched}
-use Rattle.improper.proofs.Later.{later_first, later-on}
+use Rattle.improper.proofs.Passes.{Searching}
 use Rattle.improper.proofs.search.Given as goal
 
 abbrev pub invariant-loop-new : goal.invariant-loop-new

@@ -13,7 +13,7 @@ use Rattle.rules.specs.Rule3.{Some, first, later}
 use Rattle.laws.specs.Tells.{has, tells}
 use native.Mathlib.Omega.{arith}
 use Rattle.laws.proofs.Base.Counts.{Eq?, same, other, eq?}
-use Rattle.laws.proofs.Base.Tests.{or_left, or_right, or_cases, or-false, or_assoc, or-true, and-true, and-false}
+use Rattle.laws.proofs.Base.Tests.{or_left, or_right, or_cases, or-false, or_assoc, or-true}
 
 -- ## Branches
 

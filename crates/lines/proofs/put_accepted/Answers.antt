@@ -1,6 +1,5 @@
 -- `lines::put_accepted` stores the lines, one after another.
 -- Assumes nothing.
-use borrow.Author.Rules.{rules}
 use native.Mathlib.Omega.{arith}
 use mathlib.Core.Path.{ap}
 use Rattle.rules.specs.Numbers.{name_count}

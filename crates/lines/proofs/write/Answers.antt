@@ -1,6 +1,5 @@
 -- `lines::write` writes the text of an answer: by whether there is room, and by the verdict.
 -- Assumes nothing.
-use borrow.Author.Rules.{rules}
 use native.Mathlib.Omega.{arith}
 use Rattle.lines.proofs.Whole.{text-refused, text-accepted, wrote, nothing}
 use Rattle.lines.proofs.Laws.{meant}

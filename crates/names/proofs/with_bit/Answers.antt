@@ -1,6 +1,5 @@
 -- `names::with_bit` sets the bit of name n in its word: the shifted one stays below 2 ^ 64.
 -- Assumes nothing.
-use borrow.Author.Rules.{rules}
 use native.Mathlib.Omega.{arith}
 use Prim.Native.Nat.{◌%◌}
 use Rattle.names.proofs.Laws.{word-one}

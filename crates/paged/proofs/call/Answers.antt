@@ -1,6 +1,5 @@
 -- `paged::call` is `call_on` with the blank record.
 -- Assumes nothing.
-use borrow.Author.Rules.{rules}
 use mathlib.Core.Path.{subst}
 use Rattle.rules.specs.declared.Diagnostic.{Diagnostic}
 use Rattle.paged.specs.Paged.{Paged}

@@ -1,6 +1,5 @@
 -- `printed::text` writes the sheet's text: the lines of what the call answers.
 -- Assumes nothing.
-use borrow.Author.Rules.{rules}
 use mathlib.Core.Path.{◌≡◌}
 use native.Mathlib.Omega.{arith}
 use lib.ListN.{length, replicate, length-replicate}

@@ -1,6 +1,5 @@
 -- `scratch::add` meets its contract: a row that was not seen leaves room for it.
 -- Assumes nothing.
-use borrow.Author.Rules.{rules}
 use Rattle.scratch.proofs.Stored.{add-room, added}
 use Rattle.scratch.proofs.add.Goals as goal
 

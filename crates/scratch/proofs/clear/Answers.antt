@@ -1,11 +1,9 @@
-use Prim.Native.Nat.{ℕ, ◌≤◌, ◌<◌, ◌-◌}
+use Prim.Native.Nat.{ℕ, ◌<◌}
 use mathlib.Core.Path.{◌≡◌, refl, ap, ◌∙◌}
 use native.Mathlib.Omega.{arith}
 use lib.ListN.{length, length-set}
 use Rattle.rules.specs.Numbers.{scratch_size}
 use Rattle.scratch.proofs.Zeroed.{zeroed, zeroed-none, zeroed-more, cleared-is}
-use Rattle.scratch.proofs.clear.Reads as reads
-use Rattle.scratch.proofs.clear.Lts as lts
 use Rattle.scratch.proofs.clear.Goals as goal
 
 pub loop-i-init : goal.loop-i-init

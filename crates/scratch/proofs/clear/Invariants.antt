@@ -1,13 +1,10 @@
 -- `scratch::clear` meets its contract. The invariant: the first i bytes are 0, and the others as they were.
 -- Assumes nothing.
-use Prim.Native.Nat.{ℕ, ◌≤◌, ◌<◌, ◌-◌}
-use mathlib.Core.Path.{◌≡◌, refl, ap, ◌∙◌}
-use native.Mathlib.Omega.{arith}
-use lib.ListN.{length, length-set}
+use Prim.Native.Nat.{◌≤◌, ◌-◌}
+use mathlib.Core.Path.{◌≡◌}
+use lib.ListN.{length}
 use Rattle.rules.specs.Numbers.{scratch_size}
-use Rattle.scratch.proofs.Zeroed.{zeroed, zeroed-none, zeroed-more, cleared-is}
-use Rattle.scratch.proofs.clear.Reads as reads
-use Rattle.scratch.proofs.clear.Lts as lts
+use Rattle.scratch.proofs.Zeroed.{zeroed}
 use Rattle.scratch.proofs.clear.Given as goal
 
 abbrev pub invariant-loop-i : goal.invariant-loop-i

@@ -1,6 +1,5 @@
 -- `scratch::mark` meets its contract: 1 moved up by k places is the k-th power of 2.
 -- Assumes nothing.
-use borrow.Author.Rules.{rules}
 use Prim.Native.Nat.{◌%◌}
 use native.Mathlib.Omega.{arith}
 use Rattle.scratch.proofs.Stored.{byte_one}

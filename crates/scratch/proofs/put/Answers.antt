@@ -1,10 +1,7 @@
 -- `scratch::put` meets its contract.
 -- Assumes nothing.
-use borrow.Author.Rules.{rules}
 use native.Mathlib.Omega.{arith}
 use lib.ListN.{length-set}
-use Rattle.scratch.proofs.put.Reads as reads
-use Rattle.scratch.proofs.put.Lts as lts
 use Rattle.scratch.proofs.put.Goals as goal
 
 pub bounds-scratch-at-2 : goal.bounds-scratch-at-2

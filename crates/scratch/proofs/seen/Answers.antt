@@ -1,6 +1,5 @@
 -- `scratch::seen` meets its contract.
 -- Assumes nothing.
-use borrow.Author.Rules.{rules}
 use mathlib.Core.Path.{refl}
 use Rattle.rules.specs.Names.{bit_of}
 use Rattle.scratch.specs.Bytes.{marked}

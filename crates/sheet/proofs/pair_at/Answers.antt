@@ -2,7 +2,6 @@
 -- Assumes nothing.
 use Rattle.sheet.proofs.AccessorLaws.{pair-cut}
 use Rattle.sheet.proofs.StepLaws.{pair_fits}
-use borrow.Author.Rules.{rules}
 use Rattle.sheet.proofs.pair_at.Goals as goal
 
 pub pair_within-requires : goal.pair_within-requires

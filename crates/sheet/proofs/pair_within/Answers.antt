@@ -3,7 +3,6 @@
 use Prim.Native.Nat.{◌+◌}
 use native.Mathlib.Omega.{arith}
 use Rattle.sheet.proofs.AccessorLaws.{pair-both}
-use borrow.Author.Rules.{rules}
 use Rattle.sheet.proofs.pair_within.Goals as goal
 
 pub overflow_cast-low : goal.overflow_cast-low

@@ -1,5 +1,4 @@
 -- `typecheck::check_api` meets its contract: each arm is the entry of the table at its kind. Assumes nothing.
-use borrow.Author.Rules.{rules}
 use mathlib.Core.Path.{refl, sym, ◌∙◌}
 use Rattle.rules.specs.Check.{api_checks}
 use Rattle.errors.specs.Sink.{meant, silent}

@@ -1,12 +1,6 @@
-use borrow.Author.Rules.{rules}
-use Prim.Native.Nat.{◌≤◌, ◌-◌}
 use mathlib.Core.Path.{◌≡◌, refl, ◌∙◌}
 use native.Mathlib.Omega.{arith}
-use lib.ListN.{length}
-use Rattle.rules.specs.Base.{over}
-use Rattle.rules.specs.Check.{check_api}
-use Rattle.names.specs.Known.{tabled}
-use Rattle.errors.specs.Sink.{Reported, start, turn, whole}
+use Rattle.errors.specs.Sink.{start, turn, whole}
 use Rattle.typecheck.proofs.check_apis.Goals as goal
 
 pub loop-i-init : goal.loop-i-init

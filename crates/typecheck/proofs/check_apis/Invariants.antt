@@ -1,13 +1,11 @@
 -- `typecheck::check_apis` meets its contract: the items before i have given their messages. Assumes nothing.
-use borrow.Author.Rules.{rules}
 use Prim.Native.Nat.{◌≤◌, ◌-◌}
-use mathlib.Core.Path.{◌≡◌, refl, ◌∙◌}
-use native.Mathlib.Omega.{arith}
+use mathlib.Core.Path.{◌≡◌}
 use lib.ListN.{length}
 use Rattle.rules.specs.Base.{over}
 use Rattle.rules.specs.Check.{check_api}
 use Rattle.names.specs.Known.{tabled}
-use Rattle.errors.specs.Sink.{Reported, start, turn, whole}
+use Rattle.errors.specs.Sink.{Reported}
 use Rattle.typecheck.proofs.check_apis.Given as goal
 
 abbrev pub invariant-loop-i : goal.invariant-loop-i

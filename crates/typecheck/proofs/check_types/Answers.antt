@@ -1,13 +1,7 @@
-use borrow.Author.Rules.{rules}
-use Prim.Native.Nat.{◌≤◌, ◌-◌}
 use mathlib.Core.Path.{◌≡◌, refl, ◌∙◌}
 use native.Mathlib.Omega.{arith}
-use lib.ListN.{length, get_or}
-use Rattle.rules.specs.Base.{over}
-use Rattle.rules.specs.Types.{types_of}
-use Rattle.rules.specs.Check.{check_type}
 use Rattle.names.specs.Known.{tabled}
-use Rattle.errors.specs.Sink.{Reported, start, turn, whole}
+use Rattle.errors.specs.Sink.{start, turn, whole}
 use Rattle.typecheck.proofs.ByKind.{few, row-given}
 use Rattle.typecheck.proofs.check_types.Goals as goal
 

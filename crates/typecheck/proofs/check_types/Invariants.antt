@@ -1,15 +1,12 @@
 -- `typecheck::check_types` meets its contract: the rows before j have given their messages. Assumes nothing.
-use borrow.Author.Rules.{rules}
 use Prim.Native.Nat.{◌≤◌, ◌-◌}
-use mathlib.Core.Path.{◌≡◌, refl, ◌∙◌}
-use native.Mathlib.Omega.{arith}
+use mathlib.Core.Path.{◌≡◌}
 use lib.ListN.{length, get_or}
 use Rattle.rules.specs.Base.{over}
 use Rattle.rules.specs.Types.{types_of}
 use Rattle.rules.specs.Check.{check_type}
 use Rattle.names.specs.Known.{tabled}
-use Rattle.errors.specs.Sink.{Reported, start, turn, whole}
-use Rattle.typecheck.proofs.ByKind.{few, row-given}
+use Rattle.errors.specs.Sink.{Reported}
 use Rattle.typecheck.proofs.check_types.Given as goal
 
 abbrev pub invariant-loop-j : goal.invariant-loop-j

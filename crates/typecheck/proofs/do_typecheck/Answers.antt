@@ -1,6 +1,5 @@
 -- `typecheck::do_typecheck` meets its contract: its two loops report one after the other, by the table of names; what that holds is what is collected.
 -- Assumes nothing.
-use borrow.Author.Rules.{rules}
 use mathlib.Core.Path.{ap}
 use Rattle.errors.specs.Sink.{also, meant}
 use Rattle.typecheck.specs.Post.{checks}

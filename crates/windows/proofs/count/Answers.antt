@@ -1,7 +1,6 @@
 -- `windows::count` meets its contract: by what `least` ensures. Assumes nothing.
 use mathlib.Core.Path.{◌∙◌, ap}
 use Prim.Native.Nat.{ℕ}
-use borrow.Author.Rules.{rules}
 use Rattle.windows.specs.Windows.{least2}
 use Rattle.windows.proofs.count.Goals as goal
 

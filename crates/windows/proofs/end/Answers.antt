@@ -2,7 +2,6 @@
 use mathlib.Core.Path.{◌∙◌, ap}
 use Prim.Native.Nat.{ℕ, ◌+◌, ◌/◌}
 use native.Mathlib.Omega.{arith}
-use borrow.Author.Rules.{rules}
 use Rattle.rules.specs.Numbers.{record_size}
 use Rattle.windows.specs.Windows.{least3}
 use Rattle.windows.proofs.Windows.{least3-le}

@@ -1,6 +1,5 @@
 -- `windows::record_from` reads the record whose number is how far place i is behind place `at`.
 -- Assumes nothing.
-use borrow.Author.Rules.{rules}
 use Rattle.windows.proofs.record_from.Goals as goal
 
 pub returns : goal.returns

@@ -1,6 +1,5 @@
 -- `bridge_core::accepted::run` meets its contract: what the steps ensure is put together by Whole.antt.
 -- Assumes nothing.
-use borrow.Author.Rules.{rules}
 use native.Mathlib.Omega.{arith}
 use mathlib.Core.Path.{◌∙◌, refl}
 use Rattle.toposort.proofs.Callers.{plain-led, plain-ordered}

@@ -1,5 +1,4 @@
 -- `bridge_core::answers::accepted` meets its contract: each set, each size and the reasons are what `names` ensures. Assumes nothing.
-use borrow.Author.Rules.{rules}
 use Rattle.bridge_core.proofs.Parts.{accepted-is}
 use Rattle.bridge_core.proofs.answers.accepted.Goals as goal
 

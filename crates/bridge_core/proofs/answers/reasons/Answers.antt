@@ -1,11 +1,10 @@
 use borrow.Author.Rules.{rules}
 use native.Mathlib.Omega.{arith}
-use Prim.Native.Nat.{ℕ, ◌-◌, ◌≤◌}
-use mathlib.Core.Path.{◌≡◌, ◌∙◌, ap}
+use Prim.Native.Nat.{ℕ}
+use mathlib.Core.Path.{◌∙◌, ap}
 use mathlib.Core.List.{List}
-use lib.ListN.{length, set}
-use Rattle.rules.specs.Numbers.{name_count}
-use Rattle.bridge_core.proofs.Parts.{counted_to, counted_start, counted-more, counted-all}
+use lib.ListN.{set}
+use Rattle.bridge_core.proofs.Parts.{counted_start, counted-more, counted-all}
 use Rattle.bridge_core.proofs.answers.reasons.Goals as goal
 
 pub loop-n-init : goal.loop-n-init

@@ -1,6 +1,5 @@
 -- `bridge_core::answers::refused` meets its contract: the record is the definition, its sets being empty. Assumes nothing.
 use Rattle.bridge_core.proofs.Parts.{refused-is}
-use borrow.Author.Rules.{rules}
 use Rattle.bridge_core.proofs.answers.refused.Goals as goal
 
 pub returns : goal.returns

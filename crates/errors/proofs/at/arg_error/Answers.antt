@@ -1,7 +1,6 @@
 -- `errors::at::arg_error` meets its contract: the bytes are those of the diagnostic. Assumes nothing.
 use Rattle.errors.specs.Records.{record_bytes}
 use Rattle.errors.specs.Sink.{noted}
-use borrow.Author.Rules.{rules}
 use Rattle.errors.proofs.at.arg_error.Goals as goal
 
 pub returns : goal.returns

@@ -1,6 +1,5 @@
 -- `errors::bytes::put2` stores two bytes, low byte first.
 -- Assumes nothing.
-use borrow.Author.Rules.{rules}
 use Rattle.errors.specs.Bytes.{low2}
 use Rattle.errors.proofs.Stores.{also}
 use Rattle.errors.proofs.bytes.put2.Goals as goal

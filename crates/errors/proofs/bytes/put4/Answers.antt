@@ -1,6 +1,5 @@
 -- `errors::bytes::put4` stores the low half and then the high half.
 -- Assumes nothing.
-use borrow.Author.Rules.{rules}
 use Rattle.errors.proofs.Stores.{also}
 use Rattle.errors.specs.Bytes.{low4}
 use Rattle.errors.proofs.bytes.put4.Goals as goal

@@ -1,6 +1,5 @@
 -- `errors::bytes::put8` stores the low half and then the high half.
 -- Assumes nothing.
-use borrow.Author.Rules.{rules}
 use Rattle.errors.proofs.Stores.{also}
 use Rattle.errors.specs.Bytes.{low8}
 use Rattle.errors.proofs.bytes.put8.Goals as goal

@@ -3,7 +3,6 @@ use Prim.Native.Nat.{◌+◌}
 use mathlib.Core.Path.{refl}
 use native.Mathlib.Omega.{arith}
 use Rattle.errors.specs.Records.{pair_at}
-use borrow.Author.Rules.{rules}
 use Rattle.errors.proofs.codes.pair_at.Goals as goal
 
 pub overflow_cast-low : goal.overflow_cast-low

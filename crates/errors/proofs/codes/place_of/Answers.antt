@@ -1,5 +1,5 @@
 -- `errors::codes::place_of` meets its contract: each arm is a case of `place_of`. Assumes nothing.
-use mathlib.Core.Path.{◌≡◌, refl, sym, ap}
+use mathlib.Core.Path.{◌≡◌, sym, ap}
 use Prim.Native.Nat.{ℕ}
 use borrow.Author.Tests.{ne_eqb}
 use Rattle.rules.specs.declared.Place.TheVariants.{L}

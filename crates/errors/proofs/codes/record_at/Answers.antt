@@ -1,6 +1,5 @@
 -- `errors::codes::record_at` meets its contract: the fields are what the callees ensure. Assumes nothing.
 use Rattle.errors.specs.Records.{record_at}
-use borrow.Author.Rules.{rules}
 use Rattle.errors.proofs.codes.record_at.Goals as goal
 
 pub returns : goal.returns

@@ -1,8 +1,6 @@
-use Prim.Native.Nat.{◌-◌, ◌≤◌}
 use mathlib.Core.Path.{◌≡◌, sym, ◌∙◌}
 use native.Mathlib.Omega.{arith}
 use borrow.Author.Rules.{rules}
-use Rattle.improper.specs.Targets.{LeadsBelow}
 use Rattle.improper.proofs.TargetLaws.{below-found, below_on}
 use Rattle.improper.proofs.targets.all_targets.Goals as goal
 

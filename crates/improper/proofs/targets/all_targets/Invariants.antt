@@ -2,11 +2,7 @@
 -- left of the names.
 -- Assumes nothing.
 use Prim.Native.Nat.{◌-◌, ◌≤◌}
-use mathlib.Core.Path.{◌≡◌, sym, ◌∙◌}
-use native.Mathlib.Omega.{arith}
-use borrow.Author.Rules.{rules}
 use Rattle.improper.specs.Targets.{LeadsBelow}
-use Rattle.improper.proofs.TargetLaws.{below-found, below_on}
 use Rattle.improper.proofs.targets.all_targets.Given as goal
 
 abbrev pub invariant-loop-n : goal.invariant-loop-n

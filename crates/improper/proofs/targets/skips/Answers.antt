@@ -1,6 +1,5 @@
 -- `improper::targets::skips` meets its contract: true is answered after the first pass alone, and where the two sets do not meet.
 -- Assumes nothing.
-use borrow.Author.Rules.{rules}
 use borrow.Author.Tests.{not-true}
 use Rattle.laws.proofs.Base.Tests.{never}
 use Rattle.improper.proofs.targets.skips.Goals as goal

@@ -1,11 +1,7 @@
-use Prim.Native.Nat.{ℕ, ◌+◌, ◌-◌, ◌≤◌}
-use mathlib.Core.Path.{◌≡◌}
-use mathlib.Core.List.{List}
+use Prim.Native.Nat.{ℕ, ◌+◌, ◌≤◌}
 use native.Mathlib.Omega.{arith}
-use lib.ListN.{length, length-replicate}
-use borrow.Author.Rules.{rules}
-use Rattle.improper.specs.Targets.{LeadsTo}
-use Rattle.improper.proofs.PassTurns.{FieldsOf, fields-none, fields-of}
+use lib.ListN.{length-replicate}
+use Rattle.improper.proofs.PassTurns.{fields-none, fields-of}
 use Rattle.improper.proofs.TargetLaws.{leads-on, took-name, took-none}
 use Rattle.improper.proofs.targets.targets_of.Goals as goal
 

@@ -1,15 +1,11 @@
 -- `improper::targets::targets_of` meets its contract. The invariant: the set has each name that a field before k leads to, and the fields
 -- are those of the name's last struct. The measure is what is left of them.
 -- Assumes nothing.
-use Prim.Native.Nat.{ℕ, ◌+◌, ◌-◌, ◌≤◌}
+use Prim.Native.Nat.{◌-◌, ◌≤◌}
 use mathlib.Core.Path.{◌≡◌}
-use mathlib.Core.List.{List}
-use native.Mathlib.Omega.{arith}
-use lib.ListN.{length, length-replicate}
-use borrow.Author.Rules.{rules}
+use lib.ListN.{length}
 use Rattle.improper.specs.Targets.{LeadsTo}
-use Rattle.improper.proofs.PassTurns.{FieldsOf, fields-none, fields-of}
-use Rattle.improper.proofs.TargetLaws.{leads-on, took-name, took-none}
+use Rattle.improper.proofs.PassTurns.{FieldsOf}
 use Rattle.improper.proofs.targets.targets_of.Given as goal
 
 abbrev pub invariant-loop-k : goal.invariant-loop-k

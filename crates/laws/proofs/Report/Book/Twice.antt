@@ -8,7 +8,7 @@ use mathlib.Core.Bool.{Bool, true, false, not, ◌&&◌, ◌||◌}
 use mathlib.Core.List.{List, ◌++◌}
 use native.Mathlib.Omega.{arith}
 use native.Mathlib.Decide.{dec_lt}
-use lib.Dec.{T, eqb, leb, ltb, eqb→eq, eqb_refl, ltb→lt, lt→ltb}
+use lib.Dec.{T, eqb, ltb, eqb→eq, eqb_refl, ltb→lt, lt→ltb}
 use Rattle.rules.specs.Numbers.{Struct, Enum, CxxType, RustType, TypeAlias}
 use Rattle.rules.specs.declared.Place.TheVariants.{I}
 use Rattle.rules.specs.declared.Diagnostic.{Diagnostic}

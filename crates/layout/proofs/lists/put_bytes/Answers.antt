@@ -1,12 +1,10 @@
 use lib.Seq.{take_all}
-use Prim.Native.Nat.{ℕ, ◌-◌, ◌≤◌}
+use Prim.Native.Nat.{ℕ}
 use mathlib.Core.List.{List, [], ◌∷◌, ◌++◌}
-use mathlib.Core.Path.{◌≡◌, ap}
-use lib.ListN.{length, take}
+use mathlib.Core.Path.{ap}
 use borrow.Author.Rules.{rules}
 use Rattle.errors.proofs.Stores.{also, meant, sized}
 use Rattle.laws.proofs.Base.Flat.{take_more}
-use Rattle.errors.specs.Bytes.{Stored}
 use Rattle.layout.proofs.lists.put_bytes.Goals as goal
 
 pub loop-k-preserved : goal.loop-k-preserved

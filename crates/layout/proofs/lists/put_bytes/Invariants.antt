@@ -1,13 +1,8 @@
 -- `layout::lists::put_bytes` stores a list of bytes and one more. The loop's invariant: the first k are stored.
 -- Assumes nothing.
-use lib.Seq.{take_all}
-use Prim.Native.Nat.{ℕ, ◌-◌, ◌≤◌}
-use mathlib.Core.List.{List, [], ◌∷◌, ◌++◌}
-use mathlib.Core.Path.{◌≡◌, ap}
+use Prim.Native.Nat.{◌-◌, ◌≤◌}
+use mathlib.Core.Path.{◌≡◌}
 use lib.ListN.{length, take}
-use borrow.Author.Rules.{rules}
-use Rattle.errors.proofs.Stores.{also, meant, sized}
-use Rattle.laws.proofs.Base.Flat.{take_more}
 use Rattle.errors.specs.Bytes.{Stored}
 use Rattle.layout.proofs.lists.put_bytes.Given as goal
 

@@ -1,9 +1,6 @@
-use Prim.Native.Nat.{◌*◌, ◌-◌, ◌≤◌}
-use mathlib.Core.List.{flat_map}
-use mathlib.Core.Path.{◌≡◌, refl}
-use lib.ListN.{length, take}
+use mathlib.Core.Path.{refl}
 use borrow.Author.Rules.{rules}
-use Rattle.errors.specs.Bytes.{Stored, low2}
+use Rattle.errors.specs.Bytes.{low2}
 use Rattle.layout.proofs.Laws.{start, turn, whole}
 use Rattle.layout.proofs.lists.put_numbers.Goals as goal
 

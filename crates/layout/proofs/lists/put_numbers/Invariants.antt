@@ -2,11 +2,9 @@
 -- Assumes nothing.
 use Prim.Native.Nat.{◌*◌, ◌-◌, ◌≤◌}
 use mathlib.Core.List.{flat_map}
-use mathlib.Core.Path.{◌≡◌, refl}
+use mathlib.Core.Path.{◌≡◌}
 use lib.ListN.{length, take}
-use borrow.Author.Rules.{rules}
 use Rattle.errors.specs.Bytes.{Stored, low2}
-use Rattle.layout.proofs.Laws.{start, turn, whole}
 use Rattle.layout.proofs.lists.put_numbers.Given as goal
 
 abbrev pub invariant-loop-k : goal.invariant-loop-k

@@ -1,9 +1,5 @@
-use Prim.Native.Nat.{◌*◌, ◌-◌, ◌≤◌}
-use mathlib.Core.List.{flat_map}
-use mathlib.Core.Path.{◌≡◌, refl}
-use lib.ListN.{length, take}
+use mathlib.Core.Path.{refl}
 use borrow.Author.Rules.{rules}
-use Rattle.errors.specs.Bytes.{Stored}
 use Rattle.layout.specs.Layout.{set_bytes}
 use Rattle.layout.proofs.Laws.{start, turn, whole}
 use Rattle.layout.proofs.lists.put_sets.Goals as goal

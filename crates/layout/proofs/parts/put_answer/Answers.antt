@@ -1,6 +1,5 @@
 -- `layout::parts::put_answer` stores the answer's three parts one after another.
 -- Assumes nothing.
-use borrow.Author.Rules.{rules}
 use Rattle.layout.specs.Layout.{answer_bytes}
 use Rattle.errors.proofs.Stores.{also}
 use Rattle.layout.proofs.parts.put_answer.Goals as goal

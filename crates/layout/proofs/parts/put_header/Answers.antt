@@ -1,6 +1,5 @@
 -- `layout::parts::put_header` stores verdict, total and count one after another.
 -- Assumes nothing.
-use borrow.Author.Rules.{rules}
 use Rattle.layout.specs.Layout.{header_bytes}
 use Rattle.errors.proofs.Stores.{also}
 use Rattle.layout.proofs.parts.put_header.Goals as goal

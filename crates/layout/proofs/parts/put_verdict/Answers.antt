@@ -1,6 +1,5 @@
 -- `layout::parts::put_verdict` stores number, zeros and position one after another.
 -- Assumes nothing.
-use borrow.Author.Rules.{rules}
 use Rattle.errors.proofs.Stores.{meant, also}
 use Rattle.errors.specs.Bytes.{low2}
 use Rattle.layout.specs.Layout.{verdict_bytes}

@@ -1,9 +1,7 @@
 use borrow.Author.Rules.{rules}
-use Prim.Native.Nat.{ℕ, ◌+◌, ◌*◌, ◌-◌, ◌≤◌}
-use mathlib.Core.Path.{◌≡◌, refl, ap}
-use mathlib.Core.List.{flat_map}
-use lib.ListN.{length, take, get_or}
-use Rattle.lines.specs.Put.{Put}
+use Prim.Native.Nat.{ℕ}
+use mathlib.Core.Path.{refl, ap}
+use lib.ListN.{get_or}
 use Rattle.rules.specs.Text.{spaced}
 use Rattle.lines.proofs.Laws.{meant, start, turn, upto}
 use Rattle.lines.proofs.Parts.{end, along}

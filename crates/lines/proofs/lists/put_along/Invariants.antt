@@ -1,14 +1,11 @@
 -- `lines::lists::put_along` stores the tiers in the sequence of the order. The loop's invariant: those of the first k are stored.
 -- Assumes nothing.
-use borrow.Author.Rules.{rules}
 use Prim.Native.Nat.{ℕ, ◌+◌, ◌*◌, ◌-◌, ◌≤◌}
-use mathlib.Core.Path.{◌≡◌, refl, ap}
+use mathlib.Core.Path.{◌≡◌}
 use mathlib.Core.List.{flat_map}
 use lib.ListN.{length, take, get_or}
 use Rattle.lines.specs.Put.{Put}
 use Rattle.rules.specs.Text.{spaced}
-use Rattle.lines.proofs.Laws.{meant, start, turn, upto}
-use Rattle.lines.proofs.Parts.{end, along}
 use Rattle.lines.proofs.lists.put_along.Given as goal
 
 abbrev pub invariant-loop-k : goal.invariant-loop-k

@@ -1,14 +1,11 @@
 -- `lines::lists::put_list` stores numbers, each after a blank. The loop's invariant: the first k are stored.
 -- Assumes nothing.
-use borrow.Author.Rules.{rules}
 use Prim.Native.Nat.{◌+◌, ◌*◌, ◌-◌, ◌≤◌}
-use mathlib.Core.Path.{◌≡◌, refl}
+use mathlib.Core.Path.{◌≡◌}
 use mathlib.Core.List.{flat_map}
 use lib.ListN.{length, take}
 use Rattle.lines.specs.Put.{Put}
 use Rattle.rules.specs.Text.{spaced}
-use Rattle.lines.proofs.Laws.{start, turn, upto}
-use Rattle.lines.proofs.Parts.{end}
 use Rattle.lines.proofs.lists.put_list.Given as goal
 
 abbrev pub invariant-loop-k : goal.invariant-loop-k

@@ -1,9 +1,7 @@
 use borrow.Author.Rules.{rules}
-use Prim.Native.Nat.{ℕ, ◌+◌, ◌*◌, ◌-◌, ◌≤◌}
-use mathlib.Core.Path.{◌≡◌, refl, ap}
+use Prim.Native.Nat.{ℕ}
+use mathlib.Core.Path.{refl, ap}
 use mathlib.Core.List.{flat_map}
-use lib.ListN.{length}
-use Rattle.lines.specs.Put.{Put}
 use Rattle.rules.specs.Text.{spaced, members_to}
 use Rattle.lines.proofs.Laws.{meant}
 use Rattle.lines.proofs.Parts.{end, members-start, members-turn}

@@ -1,14 +1,11 @@
 -- `lines::lists::put_members` stores the names of a set, rising. The loop's invariant: those below k are stored.
 -- Assumes nothing.
-use borrow.Author.Rules.{rules}
-use Prim.Native.Nat.{ℕ, ◌+◌, ◌*◌, ◌-◌, ◌≤◌}
-use mathlib.Core.Path.{◌≡◌, refl, ap}
+use Prim.Native.Nat.{◌+◌, ◌*◌, ◌-◌, ◌≤◌}
+use mathlib.Core.Path.{◌≡◌}
 use mathlib.Core.List.{flat_map}
 use lib.ListN.{length}
 use Rattle.lines.specs.Put.{Put}
 use Rattle.rules.specs.Text.{spaced, members_to}
-use Rattle.lines.proofs.Laws.{meant}
-use Rattle.lines.proofs.Parts.{end, members-start, members-turn}
 use Rattle.lines.proofs.lists.put_members.Given as goal
 
 abbrev pub invariant-loop-k : goal.invariant-loop-k

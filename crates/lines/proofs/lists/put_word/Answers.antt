@@ -1,8 +1,6 @@
 use borrow.Author.Rules.{rules}
-use Prim.Native.Nat.{◌+◌, ◌-◌, ◌≤◌}
-use mathlib.Core.Path.{◌≡◌, refl}
-use lib.ListN.{length, take}
-use Rattle.lines.specs.Put.{Put}
+use mathlib.Core.Path.{refl}
+use lib.ListN.{length}
 use Rattle.lines.proofs.Laws.{none, turn-word, whole_word}
 use Rattle.lines.proofs.Parts.{end}
 use Rattle.lines.proofs.lists.put_word.Goals as goal

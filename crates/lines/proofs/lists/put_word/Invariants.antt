@@ -1,12 +1,9 @@
 -- `lines::lists::put_word` stores bytes as they stand. The loop's invariant: the first k are stored.
 -- Assumes nothing.
-use borrow.Author.Rules.{rules}
 use Prim.Native.Nat.{◌+◌, ◌-◌, ◌≤◌}
-use mathlib.Core.Path.{◌≡◌, refl}
+use mathlib.Core.Path.{◌≡◌}
 use lib.ListN.{length, take}
 use Rattle.lines.specs.Put.{Put}
-use Rattle.lines.proofs.Laws.{none, turn-word, whole_word}
-use Rattle.lines.proofs.Parts.{end}
 use Rattle.lines.proofs.lists.put_word.Given as goal
 
 abbrev pub invariant-loop-k : goal.invariant-loop-k

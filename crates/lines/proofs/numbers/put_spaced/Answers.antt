@@ -1,6 +1,5 @@
 -- `lines::numbers::put_spaced` stores a blank, and a number.
 -- Assumes nothing.
-use borrow.Author.Rules.{rules}
 use Rattle.rules.specs.Text.{spaced}
 use Rattle.lines.proofs.Laws.{also}
 use Rattle.lines.proofs.numbers.put_spaced.Goals as goal

@@ -1,9 +1,5 @@
 use borrow.Author.Rules.{rules}
-use Prim.Native.Nat.{◌+◌, ◌*◌, ◌-◌, ◌≤◌}
-use mathlib.Core.Path.{◌≡◌, refl}
-use mathlib.Core.List.{flat_map}
-use lib.ListN.{length, take}
-use Rattle.lines.specs.Put.{Put}
+use mathlib.Core.Path.{refl}
 use Rattle.rules.specs.Text.{record_line}
 use Rattle.lines.proofs.Laws.{start, turn, upto}
 use Rattle.lines.proofs.Parts.{end}

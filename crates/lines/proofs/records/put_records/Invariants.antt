@@ -1,14 +1,11 @@
 -- `lines::records::put_records` stores the lines of records. The loop's invariant: the first k are stored.
 -- Assumes nothing.
-use borrow.Author.Rules.{rules}
 use Prim.Native.Nat.{◌+◌, ◌*◌, ◌-◌, ◌≤◌}
-use mathlib.Core.Path.{◌≡◌, refl}
+use mathlib.Core.Path.{◌≡◌}
 use mathlib.Core.List.{flat_map}
 use lib.ListN.{length, take}
 use Rattle.lines.specs.Put.{Put}
 use Rattle.rules.specs.Text.{record_line}
-use Rattle.lines.proofs.Laws.{start, turn, upto}
-use Rattle.lines.proofs.Parts.{end}
 use Rattle.lines.proofs.records.put_records.Given as goal
 
 abbrev pub invariant-loop-k : goal.invariant-loop-k

@@ -1,6 +1,5 @@
 -- `known::is_declared`: the name has an entry in the column of types.
 -- Assumes nothing.
-use borrow.Author.Rules.{rules}
 use mathlib.Core.Path.{ap}
 use lib.Dec.{ltb}
 use Rattle.names.proofs.known.is_declared.Goals as goal

@@ -1,6 +1,5 @@
 -- `known::is_extern` is `is_extern` of the rules: in cxx, no struct, no enum, asked in this order.
 -- Assumes nothing.
-use borrow.Author.Rules.{rules}
 use borrow.Author.Tests.{not-true, not-false}
 use Rattle.names.proofs.Askers.{extern-not-cxx, extern-not-struct, extern-enum}
 use Rattle.names.proofs.known.is_extern.Goals as goal

@@ -1,6 +1,5 @@
 -- `known::is_opaque` is `is_opaque` of the rules: an extern C++ type, and no alias.
 -- Assumes nothing.
-use borrow.Author.Rules.{rules}
 use borrow.Author.Tests.{not-true, not-false}
 use Rattle.names.proofs.Askers.{opaque-not, opaque-alias}
 use Rattle.names.proofs.known.is_opaque.Goals as goal

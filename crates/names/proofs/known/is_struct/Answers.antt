@@ -1,6 +1,5 @@
 -- `known::is_struct` is `is_struct` of the rules, by the table.
 -- Assumes nothing.
-use borrow.Author.Rules.{rules}
 use mathlib.Core.Path.{sym, ap, ◌∙◌}
 use lib.Dec.{ltb}
 use Rattle.rules.specs.Types.{is_struct}

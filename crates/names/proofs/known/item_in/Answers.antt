@@ -1,6 +1,5 @@
 -- `known::item_in` is `item_in`: an entry is an item's number plus 1, or 0.
 -- Assumes nothing.
-use borrow.Author.Rules.{rules}
 use Rattle.names.proofs.Askers.{item-before}
 use Rattle.names.proofs.known.item_in.Goals as goal
 

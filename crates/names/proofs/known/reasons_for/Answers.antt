@@ -1,6 +1,5 @@
 -- `known::reasons_for` is `reasons_for` of the rules, by the table.
 -- Assumes nothing.
-use borrow.Author.Rules.{rules}
 use mathlib.Core.Path.{sym, ◌∙◌}
 use Rattle.rules.specs.Types.{reasons_for}
 use Rattle.names.specs.Known.{tabled}

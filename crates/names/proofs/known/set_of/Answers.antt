@@ -1,8 +1,6 @@
-use borrow.Author.Rules.{rules}
 use native.Mathlib.Omega.{arith}
-use Prim.Native.Nat.{◌-◌, ◌≤◌}
-use mathlib.Core.Path.{◌≡◌, ◌∙◌}
-use Rattle.names.proofs.Columns.{names_to, to_start, to-more, to_same, to_end}
+use mathlib.Core.Path.{◌∙◌}
+use Rattle.names.proofs.Columns.{to_start, to-more, to_same, to_end}
 use Rattle.names.proofs.known.set_of.Goals as goal
 
 pub loop-n-init : goal.loop-n-init

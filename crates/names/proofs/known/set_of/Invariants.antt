@@ -1,10 +1,8 @@
 -- `known::set_of` gathers the names that have an entry: after n turns the set is that of the names below n.
 -- Assumes nothing.
-use borrow.Author.Rules.{rules}
-use native.Mathlib.Omega.{arith}
 use Prim.Native.Nat.{◌-◌, ◌≤◌}
-use mathlib.Core.Path.{◌≡◌, ◌∙◌}
-use Rattle.names.proofs.Columns.{names_to, to_start, to-more, to_same, to_end}
+use mathlib.Core.Path.{◌≡◌}
+use Rattle.names.proofs.Columns.{names_to}
 use Rattle.names.proofs.known.set_of.Given as goal
 
 abbrev pub invariant-loop-n : goal.invariant-loop-n

@@ -1,6 +1,5 @@
 -- `known::struct_of` is `struct_of` of the rules, by the table.
 -- Assumes nothing.
-use borrow.Author.Rules.{rules}
 use mathlib.Core.Path.{sym, ap, ◌∙◌}
 use Rattle.rules.specs.Types.{struct_of}
 use Rattle.names.specs.Known.{item_in, tabled}

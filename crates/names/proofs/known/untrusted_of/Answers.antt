@@ -1,6 +1,5 @@
 -- `known::untrusted_of` is `untrusted_of` of the rules, by the table.
 -- Assumes nothing.
-use borrow.Author.Rules.{rules}
 use mathlib.Core.Path.{sym, ap, ◌∙◌}
 use Rattle.rules.specs.Types.{untrusted_of}
 use Rattle.names.specs.Known.{item_in, tabled}

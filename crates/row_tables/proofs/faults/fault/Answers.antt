@@ -1,6 +1,5 @@
 -- `row_tables::faults::fault` meets its contract: each test that the code makes is that of the definition.
 -- Assumes nothing.
-use borrow.Author.Rules.{rules}
 use mathlib.Core.Path.{sym, ◌∙◌}
 use native.Mathlib.Omega.{arith}
 use Rattle.laws.proofs.Report.Messages.Items.{describe-few}

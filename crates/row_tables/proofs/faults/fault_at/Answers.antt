@@ -1,6 +1,5 @@
 -- `row_tables::faults::fault_at` meets its contract: it reads the table where there is an entry.
 -- Assumes nothing.
-use borrow.Author.Rules.{rules}
 use mathlib.Core.Path.{sym, ◌∙◌}
 use Rattle.laws.proofs.Rows.RowTable.{read-in, read_out}
 use Rattle.row_tables.proofs.faults.fault_at.Goals as goal

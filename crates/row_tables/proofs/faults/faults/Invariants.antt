@@ -1,15 +1,11 @@
 -- `row_tables::faults::faults` meets its contract: the entries below r are right, and the next is decided by them.
 -- Assumes nothing.
-use borrow.Author.Rules.{rules}
-use Prim.Native.Nat.{ℕ, ◌≤◌, ◌-◌}
-use mathlib.Core.Path.{◌≡◌, ◌∙◌}
-use native.Mathlib.Omega.{arith}
-use lib.ListN.{length, length-replicate, length-set}
+use Prim.Native.Nat.{◌≤◌, ◌-◌}
+use mathlib.Core.Path.{◌≡◌}
+use lib.ListN.{length}
 use Rattle.laws.specs.RowTable.{marked}
-use Rattle.laws.proofs.Sheet.Accepted.Sheet.{sheet-of}
-use Rattle.laws.proofs.Rows.RowTable.{Right, alone, right-start, right-next, right-all, table_same}
+use Rattle.laws.proofs.Rows.RowTable.{Right}
 use Rattle.row_tables.specs.Tables.{fault_by}
-use Rattle.row_tables.proofs.FaultLaws.{fault-sized}
 use Rattle.names.specs.Known.{tabled}
 use Rattle.row_tables.proofs.faults.faults.Given as goal
 

@@ -1,6 +1,5 @@
 -- `row_tables::leads::item_byte` meets its contract: by its test.
 -- Assumes nothing.
-use borrow.Author.Rules.{rules}
 use borrow.Author.Tests.{lt-ltb, le-ltb}
 use Rattle.rules.specs.Base.{if◌then◌else◌}
 use Rattle.row_tables.specs.Tables.{item_byte}

@@ -1,6 +1,5 @@
 -- `row_tables::leads::lead` meets its contract: each test that the code makes is that of the definition.
 -- Assumes nothing.
-use borrow.Author.Rules.{rules}
 use mathlib.Core.Path.{refl}
 use borrow.Author.Tests.{not-true, not-false}
 use Rattle.row_tables.specs.Tables.{lead_byte}

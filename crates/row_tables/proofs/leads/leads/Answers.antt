@@ -1,11 +1,10 @@
-use borrow.Author.Rules.{rules}
-use Prim.Native.Nat.{ℕ, ◌≤◌, ◌-◌}
+use Prim.Native.Nat.{ℕ}
 use mathlib.Core.Path.{◌≡◌, ap, ◌∙◌}
 use native.Mathlib.Omega.{arith}
-use lib.ListN.{length, length-replicate, length-set}
+use lib.ListN.{length-replicate, length-set}
 use Rattle.rules.specs.Types.{Types}
 use Rattle.laws.proofs.Sheet.Accepted.Sheet.{sheet-of}
-use Rattle.laws.proofs.Rows.RowTable.{Right, alone, right-start, right-next, right-all, table_same}
+use Rattle.laws.proofs.Rows.RowTable.{alone, right-start, right-next, right-all, table_same}
 use Rattle.row_tables.specs.Tables.{lead_byte}
 use Rattle.row_tables.proofs.LeadLaws.{lead-own}
 use Rattle.names.specs.Known.{tabled}

@@ -1,15 +1,10 @@
 -- `row_tables::leads::leads` meets its contract: the entries below r are right, and the next is decided by them.
 -- Assumes nothing.
-use borrow.Author.Rules.{rules}
-use Prim.Native.Nat.{ℕ, ◌≤◌, ◌-◌}
-use mathlib.Core.Path.{◌≡◌, ap, ◌∙◌}
-use native.Mathlib.Omega.{arith}
-use lib.ListN.{length, length-replicate, length-set}
-use Rattle.rules.specs.Types.{Types}
-use Rattle.laws.proofs.Sheet.Accepted.Sheet.{sheet-of}
-use Rattle.laws.proofs.Rows.RowTable.{Right, alone, right-start, right-next, right-all, table_same}
+use Prim.Native.Nat.{◌≤◌, ◌-◌}
+use mathlib.Core.Path.{◌≡◌}
+use lib.ListN.{length}
+use Rattle.laws.proofs.Rows.RowTable.{Right}
 use Rattle.row_tables.specs.Tables.{lead_byte}
-use Rattle.row_tables.proofs.LeadLaws.{lead-own}
 use Rattle.names.specs.Known.{tabled}
 use Rattle.row_tables.proofs.leads.leads.Given as goal
 

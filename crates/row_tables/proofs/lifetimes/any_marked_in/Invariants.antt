@@ -1,14 +1,11 @@
 -- `row_tables::lifetimes::any_marked_in` meets its contract: found says whether one before j is marked.
 -- Assumes nothing.
-use borrow.Author.Rules.{rules}
-use Prim.Native.Nat.{◌≤◌, ◌-◌, ℕ}
-use mathlib.Core.Path.{◌≡◌, refl, ◌∙◌, ap}
+use Prim.Native.Nat.{◌≤◌, ◌-◌}
+use mathlib.Core.Path.{◌≡◌}
 use mathlib.Core.List.{[], ◌∷◌}
-use native.Mathlib.Omega.{arith}
 use Rattle.rules.specs.Base.{over, any_of}
-use Rattle.rules.specs.View.{entry, entries}
+use Rattle.rules.specs.View.{entry}
 use Rattle.laws.specs.RowTable.{marked}
-use Rattle.row_tables.proofs.AnyOf.{any-turn}
 use Rattle.row_tables.proofs.lifetimes.any_marked_in.Given as goal
 
 abbrev pub invariant-loop-j : goal.invariant-loop-j

@@ -1,6 +1,5 @@
 -- `row_tables::lifetimes::any_marked_shown` meets its contract: a leaf, a function pointer, any other row.
 -- Assumes nothing.
-use borrow.Author.Rules.{rules}
 use mathlib.Core.Path.{◌≡◌, sym, ◌∙◌}
 use mathlib.Core.Bool.{true, false}
 use borrow.Author.Tests.{ne_eqb}

@@ -1,6 +1,5 @@
 -- `row_tables::lifetimes::is_lifetime_mut` meets its contract: each test that the code makes is that of the definition.
 -- Assumes nothing.
-use borrow.Author.Rules.{rules}
 use mathlib.Core.Path.{sym, ◌∙◌}
 use borrow.Author.Tests.{not-true, not-false}
 use Rattle.rules.specs.Check.{is_lifetime_mut}

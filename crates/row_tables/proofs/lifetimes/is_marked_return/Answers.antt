@@ -1,6 +1,5 @@
 -- `row_tables::lifetimes::is_marked_return` meets its contract: there is a return row, or none.
 -- Assumes nothing.
-use borrow.Author.Rules.{rules}
 use borrow.Author.Tests.{eq-eqb, ne_eqb}
 use Rattle.rules.specs.Base.{if◌then◌else◌, any_of}
 use Rattle.rules.specs.View.{or_nothing}

@@ -1,6 +1,5 @@
 -- `row_tables::lifetimes::is_mut_row` meets its contract: each test that the code makes is that of the definition.
 -- Assumes nothing.
-use borrow.Author.Rules.{rules}
 use mathlib.Core.Path.{refl}
 use Rattle.laws.specs.RowSteps.{mut_step}
 use Rattle.row_tables.proofs.Branches.{if-taken, if-left}

@@ -1,6 +1,5 @@
 -- `row_tables::lifetimes::may_have_lifetimes` meets its contract: what its calls ensure, put together.
 -- Assumes nothing.
-use borrow.Author.Rules.{rules}
 use Rattle.rules.specs.Check.{may_have_lifetimes}
 use Rattle.row_tables.proofs.lifetimes.may_have_lifetimes.Goals as goal
 

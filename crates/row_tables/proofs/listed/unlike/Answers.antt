@@ -1,12 +1,10 @@
-use Prim.Native.Nat.{ℕ, ◌+◌, ◌-◌, ◌≤◌, ◌<◌, ◌^◌}
+use Prim.Native.Nat.{◌-◌}
 use mathlib.Core.Path.{◌≡◌}
-use mathlib.Core.Bool.{Bool, not}
+use mathlib.Core.Bool.{not}
 use lib.Dec.{eqb}
 use native.Mathlib.Omega.{arith}
-use lib.Pow.{pow_mono}
-use borrow.Author.Rules.{rules}
 use Rattle.laws.specs.Word.{word_of}
-use Rattle.laws.proofs.Base.Words.{word_lt, word-down, bit_le}
+use Rattle.laws.proofs.Base.Words.{word-down, bit_le}
 use Rattle.row_tables.specs.Listed.{unlike_at}
 use Rattle.row_tables.proofs.listed.unlike.Invariants.{short}
 use Rattle.row_tables.proofs.listed.unlike.Goals as goal

@@ -1,14 +1,12 @@
 -- `unlike` meets its contract: from the last entry down, the word of the entries from k on; it has no more bits than there are entries, so nothing is lost.
 -- Assumes nothing.
-use Prim.Native.Nat.{ℕ, ◌+◌, ◌-◌, ◌≤◌, ◌<◌, ◌^◌}
+use Prim.Native.Nat.{ℕ, ◌-◌, ◌≤◌, ◌<◌}
 use mathlib.Core.Path.{◌≡◌}
-use mathlib.Core.Bool.{Bool, not}
-use lib.Dec.{eqb}
+use mathlib.Core.Bool.{Bool}
 use native.Mathlib.Omega.{arith}
 use lib.Pow.{pow_mono}
-use borrow.Author.Rules.{rules}
 use Rattle.laws.specs.Word.{word_of}
-use Rattle.laws.proofs.Base.Words.{word_lt, word-down, bit_le}
+use Rattle.laws.proofs.Base.Words.{word_lt}
 use Rattle.row_tables.specs.Listed.{unlike_at}
 use Rattle.row_tables.proofs.listed.unlike.Given as goal
 

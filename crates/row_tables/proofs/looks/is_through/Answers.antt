@@ -1,6 +1,5 @@
 -- `row_tables::looks::is_through` meets its contract: the tests are joined as the definition joins them.
 -- Assumes nothing.
-use borrow.Author.Rules.{rules}
 use Rattle.row_tables.proofs.looks.is_through.Goals as goal
 
 pub returns : goal.returns

@@ -1,6 +1,5 @@
 -- `row_tables::looks::look_name` meets its contract: an atom, a struct's name, any other.
 -- Assumes nothing.
-use borrow.Author.Rules.{rules}
 use mathlib.Core.Path.{sym, ◌∙◌}
 use native.Mathlib.Omega.{arith}
 use Rattle.names.specs.Known.{tabled}

@@ -1,6 +1,5 @@
 -- `row_tables::looks::look_row` meets its contract: a name, a row that is looked through, any other.
 -- Assumes nothing.
-use borrow.Author.Rules.{rules}
 use mathlib.Core.Path.{refl, sym, ap, ◌∙◌}
 use borrow.Author.Tests.{eq-eqb, ne_eqb}
 use Rattle.laws.specs.RowSteps.{look_step}

@@ -1,6 +1,5 @@
 -- `row_tables::marks::marked` meets its contract: it reads the table where there is an entry.
 -- Assumes nothing.
-use borrow.Author.Rules.{rules}
 use Rattle.laws.proofs.Rows.RowTable.{read-in, read_out}
 use Rattle.row_tables.proofs.marks.marked.Goals as goal
 

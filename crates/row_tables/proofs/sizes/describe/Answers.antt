@@ -1,6 +1,5 @@
 -- `row_tables::sizes::describe` meets its contract: each test that the code makes is that of the definition.
 -- Assumes nothing.
-use borrow.Author.Rules.{rules}
 use borrow.Author.Tests.{eq-eqb, ne_eqb}
 use Rattle.rules.specs.View.{is}
 use Rattle.rules.specs.Check.{describe}

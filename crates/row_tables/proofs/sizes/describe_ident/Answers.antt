@@ -1,6 +1,5 @@
 -- `row_tables::sizes::describe_ident` meets its contract: what its calls ensure, put together.
 -- Assumes nothing.
-use borrow.Author.Rules.{rules}
 use Rattle.rules.specs.Check.{describe_ident}
 use Rattle.row_tables.proofs.sizes.describe_ident.Goals as goal
 

@@ -1,6 +1,5 @@
 -- `row_tables::sizes::describe_other` meets its contract: what its calls ensure, put together.
 -- Assumes nothing.
-use borrow.Author.Rules.{rules}
 use Rattle.row_tables.specs.Tables.{describe_other}
 use Rattle.row_tables.proofs.sizes.describe_other.Goals as goal
 

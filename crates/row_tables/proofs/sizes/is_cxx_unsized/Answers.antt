@@ -1,6 +1,5 @@
 -- `row_tables::sizes::is_cxx_unsized` meets its contract: what its calls ensure, put together.
 -- Assumes nothing.
-use borrow.Author.Rules.{rules}
 use Rattle.row_tables.proofs.sizes.is_cxx_unsized.Goals as goal
 
 pub returns : goal.returns

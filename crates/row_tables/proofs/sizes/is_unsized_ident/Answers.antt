@@ -1,6 +1,5 @@
 -- `row_tables::sizes::is_unsized_ident` meets its contract: what its calls ensure, put together.
 -- Assumes nothing.
-use borrow.Author.Rules.{rules}
 use Rattle.rules.specs.Check.{is_unsized_ident}
 use Rattle.row_tables.proofs.sizes.is_unsized_ident.Goals as goal
 

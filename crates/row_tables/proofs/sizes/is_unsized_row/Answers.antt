@@ -1,6 +1,5 @@
 -- `row_tables::sizes::is_unsized_row` meets its contract: each test that the code makes is that of the definition.
 -- Assumes nothing.
-use borrow.Author.Rules.{rules}
 use Rattle.laws.specs.RowSteps.{unsized_step}
 use Rattle.row_tables.proofs.Branches.{if-taken, if-left}
 use Rattle.row_tables.proofs.sizes.is_unsized_row.Goals as goal

@@ -1,16 +1,11 @@
 -- `row_tables::sizes::unsized_rows` meets its contract: the entries below r are right, and the next is decided by them.
 -- Assumes nothing.
-use borrow.Author.Rules.{rules}
-use Prim.Native.Nat.{ℕ, ◌≤◌, ◌-◌}
-use mathlib.Core.Path.{◌≡◌, ap, ◌∙◌}
-use native.Mathlib.Omega.{arith}
-use lib.ListN.{length, length-replicate, length-set}
-use Rattle.rules.specs.Check.{is_unsized_within, is_unsized}
+use Prim.Native.Nat.{◌≤◌, ◌-◌}
+use mathlib.Core.Path.{◌≡◌}
+use lib.ListN.{length}
+use Rattle.rules.specs.Check.{is_unsized_within}
 use Rattle.laws.specs.RowTable.{is_mark}
-use Rattle.laws.specs.RowSteps.{unsized_step}
-use Rattle.laws.proofs.Sheet.Accepted.Sheet.{sheet-of}
-use Rattle.laws.proofs.Rows.Fuel.{unsized-up}
-use Rattle.laws.proofs.Rows.RowTable.{Right, right-start, right-next, right-all, mark-is}
+use Rattle.laws.proofs.Rows.RowTable.{Right}
 use Rattle.names.specs.Known.{tabled}
 use Rattle.row_tables.proofs.sizes.unsized_rows.Given as goal
 

@@ -1,6 +1,5 @@
 -- `row_tables::wants::few_rows` meets its contract: by its test.
 -- Assumes nothing.
-use borrow.Author.Rules.{rules}
 use mathlib.Core.Path.{◌∙◌}
 use native.Mathlib.Omega.{arith}
 use Rattle.row_tables.proofs.WantLaws.{few-below, few-most}

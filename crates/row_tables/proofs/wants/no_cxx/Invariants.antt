@@ -1,16 +1,11 @@
 -- `row_tables::wants::no_cxx` meets its contract: no name before n is in cxx.
 -- Assumes nothing.
-use borrow.Author.Rules.{rules}
 use Prim.Native.Nat.{ℕ, ◌≤◌, ◌<◌, ◌-◌}
-use mathlib.Core.Path.{◌≡◌, sym, ◌∙◌}
+use mathlib.Core.Path.{◌≡◌}
 use mathlib.Core.List.{List}
 use mathlib.Core.Bool.{false}
-use native.Mathlib.Omega.{arith}
-use borrow.Author.Count.{below_more}
 use Rattle.rules.specs.Types.{is_cxx}
-use Rattle.laws.proofs.Base.Tests.{never}
 use Rattle.names.specs.Known.{tabled}
-use Rattle.row_tables.proofs.WantLaws.{none-all}
 use Rattle.row_tables.proofs.wants.no_cxx.Given as goal
 
 abbrev pub invariant-loop-n : goal.invariant-loop-n

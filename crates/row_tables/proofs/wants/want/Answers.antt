@@ -1,6 +1,5 @@
 -- `row_tables::wants::want` meets its contract: each test that the code makes is that of the definition.
 -- Assumes nothing.
-use borrow.Author.Rules.{rules}
 use mathlib.Core.Path.{sym, ap, ◌∙◌}
 use borrow.Author.Tests.{not-true, not-false}
 use Rattle.row_tables.specs.Tables.{one_of}

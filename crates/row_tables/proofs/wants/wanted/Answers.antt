@@ -1,6 +1,5 @@
 -- `row_tables::wants::wanted` meets its contract: where the row has an entry, it is right.
 -- Assumes nothing.
-use borrow.Author.Rules.{rules}
 use native.Mathlib.Omega.{arith}
 use Rattle.row_tables.proofs.wants.wanted.Goals as goal
 

@@ -1,11 +1,10 @@
-use borrow.Author.Rules.{rules}
-use Prim.Native.Nat.{ℕ, ◌≤◌, ◌-◌}
+use Prim.Native.Nat.{ℕ}
 use mathlib.Core.Path.{◌≡◌, ◌∙◌}
 use native.Mathlib.Omega.{arith}
-use lib.ListN.{length, length-replicate, length-set}
+use lib.ListN.{length-replicate, length-set}
 use Rattle.rules.specs.Types.{is_extern}
 use Rattle.rules.specs.Trivial.{insist}
-use Rattle.laws.proofs.Rows.RowTable.{Right, alone, right-start, right-next, right-all}
+use Rattle.laws.proofs.Rows.RowTable.{alone, right-start, right-next, right-all}
 use Rattle.row_tables.specs.Tables.{one_of}
 use Rattle.row_tables.proofs.WantLaws.{few-rows}
 use Rattle.names.specs.Known.{tabled}

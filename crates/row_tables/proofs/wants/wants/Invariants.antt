@@ -1,15 +1,12 @@
 -- `row_tables::wants::wants` meets its contract: the entries below r are right, and the next is decided by them.
 -- Assumes nothing.
-use borrow.Author.Rules.{rules}
-use Prim.Native.Nat.{ℕ, ◌≤◌, ◌-◌}
-use mathlib.Core.Path.{◌≡◌, ◌∙◌}
-use native.Mathlib.Omega.{arith}
-use lib.ListN.{length, length-replicate, length-set}
+use Prim.Native.Nat.{◌≤◌, ◌-◌}
+use mathlib.Core.Path.{◌≡◌}
+use lib.ListN.{length}
 use Rattle.rules.specs.Types.{is_extern}
 use Rattle.rules.specs.Trivial.{insist}
-use Rattle.laws.proofs.Rows.RowTable.{Right, alone, right-start, right-next, right-all}
+use Rattle.laws.proofs.Rows.RowTable.{Right}
 use Rattle.row_tables.specs.Tables.{one_of}
-use Rattle.row_tables.proofs.WantLaws.{few-rows}
 use Rattle.names.specs.Known.{tabled}
 use Rattle.row_tables.proofs.wants.wants.Given as goal
 

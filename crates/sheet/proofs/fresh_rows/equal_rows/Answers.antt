@@ -1,7 +1,6 @@
 -- `equal_rows` compares two rows: by whether they are equally long, and then by their bytes.
 -- Assumes nothing.
 use Rattle.sheet.proofs.FreshLaws.{rows_alike, rows-unlike}
-use borrow.Author.Rules.{rules}
 use Rattle.sheet.proofs.fresh_rows.equal_rows.Goals as goal
 
 pub returns-then-n-minus : goal.returns-then-n-minus

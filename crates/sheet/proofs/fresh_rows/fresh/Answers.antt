@@ -1,7 +1,6 @@
 -- `fresh` finds no equal row where no mark or no key agrees, and else compares.
 -- Assumes nothing.
 use Rattle.sheet.proofs.FreshLaws.{fresh_unmarked, fresh-unheld}
-use borrow.Author.Rules.{rules}
 use Rattle.sheet.proofs.fresh_rows.fresh.Goals as goal
 
 pub returns-then-old-eq0 : goal.returns-then-old-eq0

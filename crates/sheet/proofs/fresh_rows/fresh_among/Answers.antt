@@ -1,8 +1,6 @@
 use borrow.Author.Rules.{rules}
-use Prim.Native.Nat.{◌≤◌}
-use mathlib.Core.Path.{◌≡◌, refl, sym, ◌∙◌}
+use mathlib.Core.Path.{refl, sym, ◌∙◌}
 use native.Mathlib.Omega.{arith}
-use Rattle.rules.specs.Format.{fresh}
 use Rattle.sheet.proofs.FreshLaws.{fresh-seen, fresh-go, fresh-end, other_key}
 use Rattle.sheet.proofs.fresh_rows.fresh_among.Goals as goal
 

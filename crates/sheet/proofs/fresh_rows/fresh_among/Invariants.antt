@@ -1,11 +1,8 @@
 -- `fresh_among` compares the rows whose keys agree. The invariant: the rows below i decide; a row with another key is no equal row. The measure is i.
 -- Assumes nothing.
-use borrow.Author.Rules.{rules}
 use Prim.Native.Nat.{◌≤◌}
-use mathlib.Core.Path.{◌≡◌, refl, sym, ◌∙◌}
-use native.Mathlib.Omega.{arith}
+use mathlib.Core.Path.{◌≡◌}
 use Rattle.rules.specs.Format.{fresh}
-use Rattle.sheet.proofs.FreshLaws.{fresh-seen, fresh-go, fresh-end, other_key}
 use Rattle.sheet.proofs.fresh_rows.fresh_among.Given as goal
 
 abbrev pub invariant-loop-i : goal.invariant-loop-i

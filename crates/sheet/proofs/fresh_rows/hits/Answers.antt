@@ -1,8 +1,5 @@
 use borrow.Author.Rules.{rules}
-use Prim.Native.Nat.{ℕ, ◌-◌, ◌≤◌, ◌<◌}
-use mathlib.Core.Path.{◌≡◌}
 use native.Mathlib.Omega.{arith}
-use lib.ListN.{get_or}
 use Rattle.sheet.proofs.FreshLaws.{count-hit, count-miss}
 use Rattle.sheet.proofs.fresh_rows.hits.Goals as goal
 use Rattle.sheet.proofs.fresh_rows.hits.Goals.{then-keys-i, else-keys-i}

@@ -1,12 +1,8 @@
 -- Where `hits` counts no key, none of the first r is k. The invariant says so of the first i; the measure is how many are left.
 -- Assumes nothing.
-use borrow.Author.Rules.{rules}
 use Prim.Native.Nat.{ℕ, ◌-◌, ◌≤◌, ◌<◌}
 use mathlib.Core.Path.{◌≡◌}
-use mathlib.Core.Logic.{⊎_elim}
-use native.Mathlib.Omega.{arith}
 use lib.ListN.{get_or}
-use Rattle.sheet.proofs.FreshLaws.{count-hit, count-miss}
 use Rattle.sheet.proofs.fresh_rows.hits.Given as goal
 
 abbrev pub invariant-loop-i : goal.invariant-loop-i

@@ -1,8 +1,4 @@
-use borrow.Author.Rules.{rules}
-use Prim.Native.Nat.{◌-◌}
-use mathlib.Core.Path.{◌≡◌}
 use native.Mathlib.Omega.{arith}
-use Rattle.sheet.specs.Keys.{key}
 use Rattle.sheet.proofs.FreshLaws.{key-go, key-end}
 use Rattle.sheet.proofs.fresh_rows.keys_of.Goals as goal
 

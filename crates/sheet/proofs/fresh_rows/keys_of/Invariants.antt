@@ -1,12 +1,9 @@
 -- `keys_of` mixes a row's pairs into two keys. The invariant: the pairs that are left, mixed into the keys so far, give the whole keys.
 -- The measure is how many bytes are left.
 -- Assumes nothing.
-use borrow.Author.Rules.{rules}
 use Prim.Native.Nat.{◌-◌}
 use mathlib.Core.Path.{◌≡◌}
-use native.Mathlib.Omega.{arith}
 use Rattle.sheet.specs.Keys.{key}
-use Rattle.sheet.proofs.FreshLaws.{key-go, key-end}
 use Rattle.sheet.proofs.fresh_rows.keys_of.Given as goal
 
 abbrev pub invariant-loop-left : goal.invariant-loop-left

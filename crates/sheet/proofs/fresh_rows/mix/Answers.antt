@@ -3,7 +3,6 @@
 use mathlib.Core.Path.{refl}
 use Rattle.sheet.specs.Keys.{mix}
 use Rattle.sheet.proofs.FreshLaws.{low_half, high_half, product-fits, turned-fits}
-use borrow.Author.Rules.{rules}
 use Rattle.sheet.proofs.fresh_rows.mix.Goals as goal
 
 pub overflow_add-z-2 : goal.overflow_add-z-2

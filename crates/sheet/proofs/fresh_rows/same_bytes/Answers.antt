@@ -1,8 +1,5 @@
-use borrow.Author.Rules.{rules}
-use Prim.Native.Nat.{◌+◌}
-use mathlib.Core.Path.{◌≡◌, refl}
+use mathlib.Core.Path.{refl}
 use native.Mathlib.Omega.{arith}
-use Rattle.rules.specs.Format.{same_bytes}
 use Rattle.sheet.proofs.FreshLaws.{bytes-differ, bytes-agree, bytes-end}
 use Rattle.sheet.proofs.fresh_rows.same_bytes.Goals as goal
 

@@ -1,11 +1,8 @@
 -- `same_bytes` compares n bytes. The invariant: what is left to compare decides, and both places have moved on alike. The measure is how many are left.
 -- Assumes nothing.
-use borrow.Author.Rules.{rules}
 use Prim.Native.Nat.{◌+◌}
-use mathlib.Core.Path.{◌≡◌, refl}
-use native.Mathlib.Omega.{arith}
+use mathlib.Core.Path.{◌≡◌}
 use Rattle.rules.specs.Format.{same_bytes}
-use Rattle.sheet.proofs.FreshLaws.{bytes-differ, bytes-agree, bytes-end}
 use Rattle.sheet.proofs.fresh_rows.same_bytes.Given as goal
 
 abbrev pub invariant-loop-left : goal.invariant-loop-left

@@ -1,7 +1,6 @@
 -- The accessor `sheet::functions::args_place` gives the place behind `return_place` of the rules: its look-ups one after the other are the definition's.
 -- Assumes nothing.
 use Rattle.rules.specs.View.{return_place, receiver_place, form, past}
-use borrow.Author.Rules.{rules}
 use Rattle.sheet.proofs.functions.args_place.Goals as goal
 
 pub returns : goal.returns

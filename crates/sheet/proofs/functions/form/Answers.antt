@@ -1,7 +1,6 @@
 -- The accessor `sheet::functions::form` gives what `form` of the rules says: its look-ups one after the other are the definition's.
 -- Assumes nothing.
 use Rattle.rules.specs.View.{form}
-use borrow.Author.Rules.{rules}
 use Rattle.sheet.proofs.functions.form.Goals as goal
 
 pub returns : goal.returns

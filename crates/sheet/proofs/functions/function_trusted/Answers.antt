@@ -1,7 +1,6 @@
 -- The accessor `sheet::functions::function_trusted` gives what `function_trusted` of the rules says: its look-ups one after the other are the definition's.
 -- Assumes nothing.
 use Rattle.rules.specs.View.{function_trusted}
-use borrow.Author.Rules.{rules}
 use Rattle.sheet.proofs.functions.function_trusted.Goals as goal
 
 pub returns : goal.returns

@@ -1,7 +1,6 @@
 -- The accessor `sheet::functions::function_unwind` gives what `function_unwind` of the rules says: its look-ups one after the other are the definition's.
 -- Assumes nothing.
 use Rattle.rules.specs.View.{function_unwind}
-use borrow.Author.Rules.{rules}
 use Rattle.sheet.proofs.functions.function_unwind.Goals as goal
 
 pub returns : goal.returns

@@ -1,7 +1,6 @@
 -- The accessor `sheet::functions::has_return` gives what `has_return` of the rules says: its look-ups one after the other are the definition's.
 -- Assumes nothing.
 use Rattle.rules.specs.View.{has_return}
-use borrow.Author.Rules.{rules}
 use Rattle.sheet.proofs.functions.has_return.Goals as goal
 
 pub returns : goal.returns

@@ -1,7 +1,6 @@
 -- The accessor `sheet::functions::is_free` gives what `is_free` of the rules says: its look-ups one after the other are the definition's.
 -- Assumes nothing.
 use Rattle.rules.specs.View.{is_free}
-use borrow.Author.Rules.{rules}
 use Rattle.sheet.proofs.functions.is_free.Goals as goal
 
 pub returns : goal.returns

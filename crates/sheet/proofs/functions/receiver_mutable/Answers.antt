@@ -1,7 +1,6 @@
 -- The accessor `sheet::functions::receiver_mutable` gives what `receiver_mutable` of the rules says: its look-ups one after the other are the definition's.
 -- Assumes nothing.
 use Rattle.rules.specs.View.{receiver_mutable}
-use borrow.Author.Rules.{rules}
 use Rattle.sheet.proofs.functions.receiver_mutable.Goals as goal
 
 pub returns : goal.returns

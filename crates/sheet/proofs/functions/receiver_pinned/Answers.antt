@@ -1,7 +1,6 @@
 -- The accessor `sheet::functions::receiver_pinned` gives what `receiver_pinned` of the rules says: its look-ups one after the other are the definition's.
 -- Assumes nothing.
 use Rattle.rules.specs.View.{receiver_pinned}
-use borrow.Author.Rules.{rules}
 use Rattle.sheet.proofs.functions.receiver_pinned.Goals as goal
 
 pub returns : goal.returns

@@ -1,7 +1,6 @@
 -- The accessor `sheet::functions::receiver_place` gives what `receiver_place` of the rules says: its look-ups one after the other are the definition's.
 -- Assumes nothing.
 use Rattle.rules.specs.View.{receiver_place, past}
-use borrow.Author.Rules.{rules}
 use Rattle.sheet.proofs.functions.receiver_place.Goals as goal
 
 pub returns : goal.returns

@@ -1,7 +1,6 @@
 -- The accessor `sheet::functions::self_type` gives what `self_type` of the rules says: its look-ups one after the other are the definition's.
 -- Assumes nothing.
 use Rattle.rules.specs.View.{self_type}
-use borrow.Author.Rules.{rules}
 use Rattle.sheet.proofs.functions.self_type.Goals as goal
 
 pub returns : goal.returns

@@ -1,8 +1,5 @@
 use borrow.Author.Rules.{rules}
-use Prim.Native.Nat.{◌-◌, ◌≤◌}
-use mathlib.Core.Path.{◌≡◌}
 use native.Mathlib.Nat.{sub-zero}
-use Rattle.rules.specs.Format.{each, item_at}
 use Rattle.sheet.proofs.StepLaws.{each-stop, each-go, each-end}
 use Rattle.sheet.proofs.item_steps.all_items.Goals as goal
 

@@ -1,11 +1,8 @@
 -- `all_items` reads items one after the other. The invariant: what is left of the step is the items from i on, from here on. The measure is how many are left.
 -- Assumes nothing.
-use borrow.Author.Rules.{rules}
 use Prim.Native.Nat.{◌-◌, ◌≤◌}
 use mathlib.Core.Path.{◌≡◌}
-use native.Mathlib.Nat.{sub-zero}
 use Rattle.rules.specs.Format.{each, item_at}
-use Rattle.sheet.proofs.StepLaws.{each-stop, each-go, each-end}
 use Rattle.sheet.proofs.item_steps.all_items.Given as goal
 
 abbrev pub invariant-loop-i : goal.invariant-loop-i

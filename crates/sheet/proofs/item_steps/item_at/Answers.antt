@@ -1,7 +1,6 @@
 -- `item_at` is the step `item_at`: the offset, the kind, and the body of that kind.
 -- Assumes nothing.
 use Rattle.sheet.proofs.ItemLaws.{item-offset, item_refused, item-go}
-use borrow.Author.Rules.{rules}
 use Rattle.sheet.proofs.item_steps.item_at.Goals as goal
 
 pub returns-then-offset-at : goal.returns-then-offset-at

@@ -2,7 +2,6 @@
 -- Assumes nothing.
 use Rattle.rules.specs.Format.{item_of, item_kinds}
 use Rattle.sheet.proofs.ItemLaws.{item-none, item-type, item-past}
-use borrow.Author.Rules.{rules}
 use Rattle.sheet.proofs.item_steps.item_of.Goals as goal
 
 pub returns-in-1 : goal.returns-in-1

@@ -2,7 +2,6 @@
 -- Assumes nothing.
 use Rattle.rules.specs.Format.{receivers}
 use Rattle.sheet.proofs.ItemLaws.{receiver-of, receiver-method, receiver-none}
-use borrow.Author.Rules.{rules}
 use Rattle.sheet.proofs.item_steps.receiver.Goals as goal
 
 pub returns-in-1 : goal.returns-in-1

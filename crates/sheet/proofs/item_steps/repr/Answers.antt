@@ -1,7 +1,6 @@
 -- `repr` is the step of that name: by the kind of the row and by whether the pair was refused.
 -- Assumes nothing.
 use Rattle.sheet.proofs.ItemLaws.{repr-fine, repr-refused, repr-wrong}
-use borrow.Author.Rules.{rules}
 use Rattle.sheet.proofs.item_steps.repr.Goals as goal
 
 pub returns-then-pair_at-eq-IDENT : goal.returns-then-pair_at-eq-IDENT

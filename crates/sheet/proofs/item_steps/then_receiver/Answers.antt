@@ -1,6 +1,5 @@
 -- `then_receiver` goes on from a step: by whether that was refused.
 -- Assumes nothing.
-use borrow.Author.Rules.{rules}
 use Rattle.sheet.proofs.item_steps.then_receiver.Goals as goal
 
 pub returns-in-Next : goal.returns-in-Next

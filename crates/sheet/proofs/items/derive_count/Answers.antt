@@ -1,7 +1,6 @@
 -- The accessor `sheet::items::derive_count` gives what `derive_count` of the rules says: its look-ups one after the other are the definition's.
 -- Assumes nothing.
 use Rattle.rules.specs.View.{derive_count}
-use borrow.Author.Rules.{rules}
 use Rattle.sheet.proofs.items.derive_count.Goals as goal
 
 pub returns : goal.returns

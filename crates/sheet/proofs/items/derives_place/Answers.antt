@@ -1,7 +1,6 @@
 -- The accessor `sheet::items::derives_place` gives what `derives_place` of the rules says: its look-ups one after the other are the definition's.
 -- Assumes nothing.
 use Rattle.rules.specs.View.{derives_place, past}
-use borrow.Author.Rules.{rules}
 use Rattle.sheet.proofs.items.derives_place.Goals as goal
 
 pub returns : goal.returns

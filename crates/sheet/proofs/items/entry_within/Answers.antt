@@ -1,8 +1,6 @@
 -- The accessor `sheet::items::entry_within` gives what `entry` of the rules says: the pair behind so many others, which the list has.
 -- Assumes nothing.
-use native.Mathlib.Omega.{arith}
 use Rattle.rules.specs.View.{entry}
-use borrow.Author.Rules.{rules}
 use Rattle.sheet.proofs.items.entry_within.Goals as goal
 
 pub returns : goal.returns

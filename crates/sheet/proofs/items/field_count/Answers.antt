@@ -1,7 +1,6 @@
 -- The accessor `sheet::items::field_count` gives what `field_count` of the rules says: its look-ups one after the other are the definition's.
 -- Assumes nothing.
 use Rattle.rules.specs.View.{field_count}
-use borrow.Author.Rules.{rules}
 use Rattle.sheet.proofs.items.field_count.Goals as goal
 
 pub returns : goal.returns

@@ -1,7 +1,6 @@
 -- The accessor `sheet::items::impl_negative` gives what `impl_negative` of the rules says: its look-ups one after the other are the definition's.
 -- Assumes nothing.
 use Rattle.rules.specs.View.{impl_negative}
-use borrow.Author.Rules.{rules}
 use Rattle.sheet.proofs.items.impl_negative.Goals as goal
 
 pub returns : goal.returns

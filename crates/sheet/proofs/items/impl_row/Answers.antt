@@ -1,7 +1,6 @@
 -- The accessor `sheet::items::impl_row` gives what `impl_row` of the rules says: its look-ups one after the other are the definition's.
 -- Assumes nothing.
 use Rattle.rules.specs.View.{impl_row}
-use borrow.Author.Rules.{rules}
 use Rattle.sheet.proofs.items.impl_row.Goals as goal
 
 pub returns : goal.returns

@@ -1,7 +1,6 @@
 -- The accessor `sheet::items::is_function` gives what `is_function` of the rules says: its look-ups one after the other are the definition's.
 -- Assumes nothing.
 use Rattle.rules.specs.View.{function_kind, is_function}
-use borrow.Author.Rules.{rules}
 use mathlib.Core.Path.{ap, ◌∙◌}
 use Rattle.sheet.proofs.items.is_function.Goals as goal
 

@@ -1,7 +1,6 @@
 -- The accessor `sheet::items::is_type` gives what `is_type` of the rules says: its look-ups one after the other are the definition's.
 -- Assumes nothing.
 use Rattle.rules.specs.View.{type_kind, is_type}
-use borrow.Author.Rules.{rules}
 use mathlib.Core.Path.{ap, ◌∙◌}
 use Rattle.sheet.proofs.items.is_type.Goals as goal
 

@@ -1,7 +1,6 @@
 -- The accessor `sheet::items::item_is` gives what `item_is` of the rules says: its look-ups one after the other are the definition's.
 -- Assumes nothing.
 use Rattle.rules.specs.View.{item_is}
-use borrow.Author.Rules.{rules}
 use Rattle.sheet.proofs.items.item_is.Goals as goal
 
 pub returns : goal.returns

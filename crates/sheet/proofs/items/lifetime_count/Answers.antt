@@ -1,7 +1,6 @@
 -- The accessor `sheet::items::lifetime_count` gives what `lifetime_count` of the rules says: its look-ups one after the other are the definition's.
 -- Assumes nothing.
 use Rattle.rules.specs.View.{lifetime_count}
-use borrow.Author.Rules.{rules}
 use Rattle.sheet.proofs.items.lifetime_count.Goals as goal
 
 pub returns : goal.returns

@@ -1,6 +1,5 @@
 -- The accessor `sheet::items::lifetimes_place` gives what `lifetimes_place` of the rules says: by the two branches on `is_type`.
 -- Assumes nothing.
-use borrow.Author.Rules.{rules}
 use Rattle.sheet.proofs.AccessorLaws.{place-type, place_other}
 use Rattle.sheet.proofs.items.lifetimes_place.Goals as goal
 

@@ -1,7 +1,6 @@
 -- The accessor `sheet::items::rest` gives what `rest` of the rules says: its look-ups one after the other are the definition's.
 -- Assumes nothing.
 use Rattle.rules.specs.View.{rest, derives_place, past}
-use borrow.Author.Rules.{rules}
 use Rattle.sheet.proofs.items.rest.Goals as goal
 
 pub returns : goal.returns

@@ -1,7 +1,6 @@
 -- The accessor `sheet::items::type_bounds` gives what `type_bounds` of the rules says: its look-ups one after the other are the definition's.
 -- Assumes nothing.
 use Rattle.rules.specs.View.{type_bounds}
-use borrow.Author.Rules.{rules}
 use Rattle.sheet.proofs.items.type_bounds.Goals as goal
 
 pub returns : goal.returns

@@ -1,6 +1,5 @@
 -- `sheet::items::type_kind` is `type_kind` of the rules.
 -- Assumes nothing.
-use borrow.Author.Rules.{rules}
 use Rattle.sheet.proofs.items.type_kind.Goals as goal
 
 pub returns : goal.returns

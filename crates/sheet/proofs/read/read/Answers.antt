@@ -1,7 +1,6 @@
 -- `read` is the reader of docs/SHEET.md: one law of `ReadLaws` for each way out.
 -- Assumes nothing.
 use Rattle.sheet.proofs.ReadLaws.{read-2, read-3, read-4, read-4', read-5, read-rows, read-items, read-fine, read-over}
-use borrow.Author.Rules.{rules}
 use Rattle.sheet.proofs.read.read.Goals as goal
 
 pub returns-then-n-gt-BYTES : goal.returns-then-n-gt-BYTES

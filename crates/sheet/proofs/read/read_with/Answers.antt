@@ -1,7 +1,6 @@
 -- `read_with` asks for the scratch and then reads.
 -- Assumes nothing.
 use Rattle.sheet.proofs.ReadLaws.{scratch-short, scratch-fine}
-use borrow.Author.Rules.{rules}
 use Rattle.sheet.proofs.read.read_with.Goals as goal
 
 pub returns-then-scratch-lt-SCRATCH : goal.returns-then-scratch-lt-SCRATCH

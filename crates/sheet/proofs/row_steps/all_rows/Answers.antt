@@ -1,15 +1,11 @@
 use borrow.Author.Rules.{rules}
-use Prim.Native.Nat.{ℕ, ◌-◌, ◌≤◌}
-use mathlib.Core.Path.{◌≡◌, refl}
-use mathlib.Core.List.{List}
+use Prim.Native.Nat.{ℕ}
+use mathlib.Core.Path.{refl}
 use native.Mathlib.Nat.{sub-zero}
 use native.Mathlib.Omega.{arith}
-use lib.ListN.{length, length-replicate, length-set}
-use Rattle.rules.specs.Format.{each, row_at, offset}
-use Rattle.sheet.specs.Keys.{Kept}
+use lib.ListN.{length-replicate, length-set}
 use Rattle.sheet.proofs.StepLaws.{each-stop, each-go, each-end}
 use Rattle.sheet.proofs.FreshLaws.{placed-here, row-refused, row_new, row_seen, sought, kept_again}
-use Rattle.sheet.proofs.row_steps.all_rows.Invariants.{Reading}
 use Rattle.sheet.proofs.row_steps.all_rows.Goals as goal
 
 pub loop-r-init : goal.loop-r-init

@@ -1,17 +1,12 @@
 -- `all_rows` reads rows one after the other. The invariant: what is left of the step is the rows from r on, from here on, and, if row r stands here, the
 -- keys and marks of the rows before it are kept. The measure is how many rows are left.
 -- Assumes nothing.
-use borrow.Author.Rules.{rules}
 use Prim.Native.Nat.{ℕ, ◌-◌, ◌≤◌}
-use mathlib.Core.Path.{◌≡◌, refl}
+use mathlib.Core.Path.{◌≡◌}
 use mathlib.Core.List.{List}
-use native.Mathlib.Nat.{sub-zero}
-use native.Mathlib.Omega.{arith}
-use lib.ListN.{length, length-replicate, length-set}
+use lib.ListN.{length}
 use Rattle.rules.specs.Format.{each, row_at, offset}
 use Rattle.sheet.specs.Keys.{Kept}
-use Rattle.sheet.proofs.StepLaws.{each-stop, each-go, each-end}
-use Rattle.sheet.proofs.FreshLaws.{placed-here, row-refused, row_new, row_seen, sought, kept_again}
 use Rattle.sheet.proofs.row_steps.all_rows.Given as goal
 
 pub record Reading (s : List ℕ) (n at : ℕ) (keys more seen : List ℕ) (here r : ℕ) : Type 0 where

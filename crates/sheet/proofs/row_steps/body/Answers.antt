@@ -2,7 +2,6 @@
 -- Assumes nothing.
 use Rattle.rules.specs.Format.{body_of, row_kinds}
 use Rattle.sheet.proofs.RowLaws.{body-wrap, body-flags, body-none}
-use borrow.Author.Rules.{rules}
 use Rattle.sheet.proofs.row_steps.body.Goals as goal
 
 pub returns-in-0 : goal.returns-in-0

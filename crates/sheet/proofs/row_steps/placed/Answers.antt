@@ -1,7 +1,6 @@
 -- `placed` is the step of that name: the offset, and the row.
 -- Assumes nothing.
 use Rattle.sheet.proofs.FreshLaws.{placed_off, placed_on}
-use borrow.Author.Rules.{rules}
 use Rattle.sheet.proofs.row_steps.placed.Goals as goal
 
 pub returns-then-offset-at : goal.returns-then-offset-at

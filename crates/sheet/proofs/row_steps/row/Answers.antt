@@ -2,7 +2,6 @@
 -- Assumes nothing.
 use Rattle.rules.specs.Format.{row}
 use Rattle.sheet.proofs.StepLaws.{stop, go}
-use borrow.Author.Rules.{rules}
 use Rattle.sheet.proofs.row_steps.row.Goals as goal
 
 pub returns-in_default : goal.returns-in_default

@@ -1,7 +1,6 @@
 -- `with_flags` is the step of that name: a limited pair, and another.
 -- Assumes nothing.
 use Rattle.rules.specs.Format.{with_flags}
-use borrow.Author.Rules.{rules}
 use Rattle.sheet.proofs.row_steps.with_flags.Goals as goal
 
 pub returns : goal.returns

@@ -1,7 +1,6 @@
 -- The accessor `sheet::rows::fn_arg` gives what `fn_arg` of the rules says: its look-ups one after the other are the definition's.
 -- Assumes nothing.
 use Rattle.rules.specs.View.{fn_arg, entry}
-use borrow.Author.Rules.{rules}
 use Rattle.sheet.proofs.rows.fn_arg.Goals as goal
 
 pub returns : goal.returns

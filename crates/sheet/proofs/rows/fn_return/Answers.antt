@@ -1,7 +1,6 @@
 -- The accessor `sheet::rows::fn_return` gives what `fn_return` of the rules says: its look-ups one after the other are the definition's.
 -- Assumes nothing.
 use Rattle.rules.specs.View.{fn_return}
-use borrow.Author.Rules.{rules}
 use Rattle.sheet.proofs.rows.fn_return.Goals as goal
 
 pub returns : goal.returns

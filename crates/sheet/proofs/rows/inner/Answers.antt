@@ -1,6 +1,5 @@
 -- The accessor `sheet::rows::inner` gives what `inner` of the rules says: by the two branches on the kind.
 -- Assumes nothing.
-use borrow.Author.Rules.{rules}
 use Rattle.sheet.proofs.AccessorLaws.{inner-near, inner-far}
 use Rattle.sheet.proofs.rows.inner.Goals as goal
 

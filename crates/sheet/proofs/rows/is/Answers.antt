@@ -1,7 +1,6 @@
 -- The accessor `sheet::rows::is` gives what `is` of the rules says: its look-ups one after the other are the definition's.
 -- Assumes nothing.
 use Rattle.rules.specs.View.{is}
-use borrow.Author.Rules.{rules}
 use Rattle.sheet.proofs.rows.is.Goals as goal
 
 pub returns : goal.returns

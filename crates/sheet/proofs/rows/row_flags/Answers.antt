@@ -1,7 +1,6 @@
 -- The accessor `sheet::rows::row_flags` gives what `row_flags` of the rules says: its look-ups one after the other are the definition's.
 -- Assumes nothing.
 use Rattle.rules.specs.View.{row_flags}
-use borrow.Author.Rules.{rules}
 use Rattle.sheet.proofs.rows.row_flags.Goals as goal
 
 pub returns : goal.returns

@@ -1,7 +1,6 @@
 -- The accessor `sheet::rows::row_name` gives what `row_name` of the rules says: its look-ups one after the other are the definition's.
 -- Assumes nothing.
 use Rattle.rules.specs.View.{row_name}
-use borrow.Author.Rules.{rules}
 use Rattle.sheet.proofs.rows.row_name.Goals as goal
 
 pub returns : goal.returns

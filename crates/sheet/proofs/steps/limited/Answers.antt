@@ -2,7 +2,6 @@
 -- Assumes nothing.
 use native.Mathlib.Omega.{arith}
 use Rattle.sheet.proofs.StepLaws.{pair_fits, limited-cut, limited-next, limited-bad}
-use borrow.Author.Rules.{rules}
 use Rattle.sheet.proofs.steps.limited.Goals as goal
 
 pub pair_within-requires : goal.pair_within-requires

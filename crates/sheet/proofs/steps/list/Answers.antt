@@ -1,6 +1,5 @@
-use borrow.Author.Rules.{rules}
-use Rattle.rules.specs.Format.{list, times, limited}
-use mathlib.Core.Path.{◌≡◌, sym}
+use Rattle.rules.specs.Format.{list}
+use mathlib.Core.Path.{sym}
 use Rattle.sheet.proofs.StepLaws.{stop, go, times-stop, times-go, times-end}
 use Rattle.sheet.proofs.steps.list.Goals as goal
 

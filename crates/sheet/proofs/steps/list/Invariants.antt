@@ -1,9 +1,7 @@
 -- `list` is the step of that name. The invariant: what is left of the step is the pairs that are left, from here on. The measure is how many are left.
 -- Assumes nothing.
-use borrow.Author.Rules.{rules}
 use Rattle.rules.specs.Format.{list, times, limited}
-use mathlib.Core.Path.{◌≡◌, sym}
-use Rattle.sheet.proofs.StepLaws.{stop, go, times-stop, times-go, times-end}
+use mathlib.Core.Path.{◌≡◌}
 use Rattle.sheet.proofs.steps.list.Given as goal
 
 abbrev pub invariant-loop-left : goal.invariant-loop-left

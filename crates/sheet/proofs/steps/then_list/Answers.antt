@@ -1,6 +1,5 @@
 -- `then_list` goes on from a step: by whether that was refused.
 -- Assumes nothing.
-use borrow.Author.Rules.{rules}
 use Rattle.sheet.proofs.steps.then_list.Goals as goal
 
 pub returns-in-Next : goal.returns-in-Next

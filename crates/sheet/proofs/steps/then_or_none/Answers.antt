@@ -1,6 +1,5 @@
 -- `then_or_none` goes on from a step: by whether that was refused.
 -- Assumes nothing.
-use borrow.Author.Rules.{rules}
 use Rattle.sheet.proofs.steps.then_or_none.Goals as goal
 
 pub returns-in-Next : goal.returns-in-Next

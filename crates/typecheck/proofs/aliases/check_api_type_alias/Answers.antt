@@ -1,5 +1,4 @@
 -- `typecheck::aliases::check_api_type_alias` meets its contract: its parts report one after the other. Assumes nothing.
-use borrow.Author.Rules.{rules}
 use Rattle.errors.specs.Sink.{also}
 use Rattle.rules.specs.Check.{check_api_type_alias}
 use Rattle.typecheck.specs.Derives.{derived, all_derived}

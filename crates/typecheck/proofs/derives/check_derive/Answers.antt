@@ -1,5 +1,4 @@
 -- `typecheck::derives::check_derive` meets its contract: each arm is the derive's rule for its owner. Assumes nothing.
-use borrow.Author.Rules.{rules}
 use Rattle.rules.specs.Diagnostics.{when}
 use Rattle.typecheck.specs.Derives.{derived}
 use Rattle.typecheck.proofs.derives.check_derive.Goals as goal

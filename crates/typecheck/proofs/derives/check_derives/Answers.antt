@@ -1,12 +1,8 @@
-use borrow.Author.Rules.{rules}
-use Prim.Native.Nat.{◌≤◌, ◌-◌}
 use mathlib.Core.Path.{◌≡◌, refl, ◌∙◌}
 use native.Mathlib.Omega.{arith}
-use lib.ListN.{length}
-use Rattle.rules.specs.Base.{over}
 use Rattle.rules.specs.View.{derive_count, derive}
-use Rattle.errors.specs.Sink.{Reported, start, turn, whole}
-use Rattle.typecheck.specs.Derives.{derived, all_derived}
+use Rattle.errors.specs.Sink.{start, turn, whole}
+use Rattle.typecheck.specs.Derives.{all_derived}
 use Rattle.typecheck.proofs.derives.check_derives.Goals as goal
 
 pub loop-j-init : goal.loop-j-init

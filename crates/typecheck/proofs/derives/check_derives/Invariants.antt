@@ -1,13 +1,11 @@
 -- `typecheck::derives::check_derives` meets its contract: the derives before j have given their messages. Assumes nothing.
-use borrow.Author.Rules.{rules}
 use Prim.Native.Nat.{◌≤◌, ◌-◌}
-use mathlib.Core.Path.{◌≡◌, refl, ◌∙◌}
-use native.Mathlib.Omega.{arith}
+use mathlib.Core.Path.{◌≡◌}
 use lib.ListN.{length}
 use Rattle.rules.specs.Base.{over}
-use Rattle.rules.specs.View.{derive_count, derive}
-use Rattle.errors.specs.Sink.{Reported, start, turn, whole}
-use Rattle.typecheck.specs.Derives.{derived, all_derived}
+use Rattle.rules.specs.View.{derive}
+use Rattle.errors.specs.Sink.{Reported}
+use Rattle.typecheck.specs.Derives.{derived}
 use Rattle.typecheck.proofs.derives.check_derives.Given as goal
 
 abbrev pub invariant-loop-j : goal.invariant-loop-j

@@ -1,5 +1,4 @@
 -- `typecheck::derives::check_enum_derive` meets its contract: Default is not ExternType, so that one of the two tests is left. Assumes nothing.
-use borrow.Author.Rules.{rules}
 use borrow.Author.Tests.{ne_eqb}
 use Rattle.errors.specs.Sink.{meant}
 use Rattle.typecheck.proofs.DeriveLaws.{default-said, other-said}

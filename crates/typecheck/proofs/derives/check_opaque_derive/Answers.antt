@@ -1,5 +1,4 @@
 -- `typecheck::derives::check_opaque_derive` meets its contract: the test is that of the definition. Assumes nothing.
-use borrow.Author.Rules.{rules}
 use mathlib.Core.Path.{ap}
 use mathlib.Core.Bool.{not}
 use Rattle.errors.specs.Sink.{meant-if}

@@ -1,5 +1,4 @@
 -- `typecheck::derives::check_struct_derive` meets its contract: its parts report one after the other. Assumes nothing.
-use borrow.Author.Rules.{rules}
 use Rattle.errors.specs.Sink.{also, meant-if}
 use Rattle.typecheck.proofs.derives.check_struct_derive.Goals as goal
 

@@ -1,5 +1,4 @@
 -- `typecheck::enums::check_api_enum` meets its contract: its parts report one after the other. Assumes nothing.
-use borrow.Author.Rules.{rules}
 use Rattle.errors.specs.Sink.{also, also-if}
 use Rattle.rules.specs.Check.{check_enum_derive, check_api_enum}
 use Rattle.typecheck.specs.Derives.{derived, all_derived}

@@ -1,5 +1,4 @@
 -- `typecheck::extern_types::check_api_type` meets its contract: its parts report one after the other. Assumes nothing.
-use borrow.Author.Rules.{rules}
 use Rattle.errors.specs.Sink.{also, also-if}
 use Rattle.rules.specs.Check.{check_opaque_derive, check_api_type}
 use Rattle.typecheck.specs.Derives.{derived, all_derived}

@@ -1,5 +1,4 @@
 -- `typecheck::extern_types::check_required_trivial` meets its contract: the test is that of the definition. Assumes nothing.
-use borrow.Author.Rules.{rules}
 use Rattle.errors.specs.Sink.{meant-if}
 use Rattle.typecheck.proofs.extern_types.check_required_trivial.Goals as goal
 

@@ -1,5 +1,4 @@
 -- `typecheck::functions::check_api_fn` meets its contract: its parts report one after the other. Assumes nothing.
-use borrow.Author.Rules.{rules}
 use mathlib.Core.Path.{◌∙◌}
 use Rattle.errors.specs.Sink.{also, meant}
 use Rattle.rules.specs.Check.{check_api_fn}

@@ -1,5 +1,4 @@
 -- `typecheck::functions::check_fn_arg` meets its contract: each test that the code makes is that of the definition. Assumes nothing.
-use borrow.Author.Rules.{rules}
 use borrow.Author.Tests.{eq-eqb, ne_eqb}
 use Rattle.rules.specs.Diagnostics.{when}
 use Rattle.errors.specs.Sink.{silent, taken, left}

@@ -1,12 +1,8 @@
-use borrow.Author.Rules.{rules}
-use Prim.Native.Nat.{◌≤◌, ◌-◌}
 use mathlib.Core.Path.{◌≡◌, refl, ◌∙◌}
 use native.Mathlib.Omega.{arith}
-use lib.ListN.{length}
-use Rattle.rules.specs.Base.{over}
 use Rattle.rules.specs.View.{arg_count, arg}
-use Rattle.errors.specs.Sink.{Reported, start, turn, whole}
-use Rattle.typecheck.specs.Tests.{function_of, function_arg, function_args}
+use Rattle.errors.specs.Sink.{start, turn, whole}
+use Rattle.typecheck.specs.Tests.{function_args}
 use Rattle.typecheck.proofs.functions.check_fn_args.Goals as goal
 
 pub loop-j-init : goal.loop-j-init

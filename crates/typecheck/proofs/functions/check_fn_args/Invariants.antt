@@ -1,13 +1,11 @@
 -- `typecheck::functions::check_fn_args` meets its contract: the arguments before j have given their messages. Assumes nothing.
-use borrow.Author.Rules.{rules}
 use Prim.Native.Nat.{◌≤◌, ◌-◌}
-use mathlib.Core.Path.{◌≡◌, refl, ◌∙◌}
-use native.Mathlib.Omega.{arith}
+use mathlib.Core.Path.{◌≡◌}
 use lib.ListN.{length}
 use Rattle.rules.specs.Base.{over}
-use Rattle.rules.specs.View.{arg_count, arg}
-use Rattle.errors.specs.Sink.{Reported, start, turn, whole}
-use Rattle.typecheck.specs.Tests.{function_of, function_arg, function_args}
+use Rattle.rules.specs.View.{arg}
+use Rattle.errors.specs.Sink.{Reported}
+use Rattle.typecheck.specs.Tests.{function_of, function_arg}
 use Rattle.typecheck.proofs.functions.check_fn_args.Given as goal
 
 abbrev pub invariant-loop-j : goal.invariant-loop-j

@@ -1,5 +1,4 @@
 -- `typecheck::functions::check_fn_generics` meets its contract: each test that the code makes is that of the definition. Assumes nothing.
-use borrow.Author.Rules.{rules}
 use Rattle.errors.specs.Sink.{meant-if, taken, left}
 use Rattle.rules.specs.Check.{check_fn_generics}
 use Rattle.typecheck.proofs.functions.check_fn_generics.Goals as goal

@@ -1,5 +1,4 @@
 -- `typecheck::functions::check_fn_mut_return` meets its contract: each test that the code makes is that of the definition. Assumes nothing.
-use borrow.Author.Rules.{rules}
 use Rattle.errors.specs.Sink.{silent, taken, left}
 use Rattle.typecheck.proofs.functions.check_fn_mut_return.Goals as goal
 

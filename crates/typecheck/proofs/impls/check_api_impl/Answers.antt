@@ -1,5 +1,4 @@
 -- `typecheck::impls::check_api_impl` meets its contract: its parts report one after the other. Assumes nothing.
-use borrow.Author.Rules.{rules}
 use Rattle.errors.specs.Sink.{also}
 use Rattle.rules.specs.Check.{check_api_impl}
 use Rattle.typecheck.proofs.impls.check_api_impl.Goals as goal

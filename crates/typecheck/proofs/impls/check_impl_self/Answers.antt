@@ -1,5 +1,4 @@
 -- `typecheck::impls::check_impl_self` meets its contract: each test that the code makes is that of the definition. Assumes nothing.
-use borrow.Author.Rules.{rules}
 use mathlib.Core.Path.{ap}
 use mathlib.Core.Bool.{not}
 use Rattle.errors.specs.Sink.{meant-if, taken, left}

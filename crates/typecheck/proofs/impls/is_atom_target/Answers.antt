@@ -1,5 +1,4 @@
 -- `typecheck::impls::is_atom_target` meets its contract: what its calls ensure, put together. Assumes nothing.
-use borrow.Author.Rules.{rules}
 use Rattle.typecheck.proofs.impls.is_atom_target.Goals as goal
 
 pub returns : goal.returns

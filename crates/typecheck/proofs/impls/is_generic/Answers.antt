@@ -1,5 +1,4 @@
 -- `typecheck::impls::is_generic` meets its contract: what its calls ensure, put together. Assumes nothing.
-use borrow.Author.Rules.{rules}
 use Rattle.typecheck.proofs.impls.is_generic.Goals as goal
 
 pub returns : goal.returns

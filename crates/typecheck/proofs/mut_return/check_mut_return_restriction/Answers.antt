@@ -1,5 +1,4 @@
 -- `typecheck::mut_return::check_mut_return_restriction` meets its contract: each test that the code makes is that of the definition. Assumes nothing.
-use borrow.Author.Rules.{rules}
 use mathlib.Core.Path.{ap, ◌∙◌}
 use mathlib.Core.Bool.{not}
 use Rattle.rules.specs.View.{args}

@@ -1,5 +1,4 @@
 -- `typecheck::mut_return::may_receiver_lend` meets its contract: each test that the code makes is that of the definition. Assumes nothing.
-use borrow.Author.Rules.{rules}
 use mathlib.Core.Path.{sym, ◌∙◌}
 use borrow.Author.Tests.{not-true, not-false}
 use Rattle.typecheck.proofs.Conjunction.{both-not, both_so}

@@ -1,5 +1,4 @@
 -- `typecheck::mut_return::returns_mut` meets its contract: what its calls ensure, put together. Assumes nothing.
-use borrow.Author.Rules.{rules}
 use Rattle.rules.specs.Check.{returns_mut}
 use Rattle.typecheck.proofs.mut_return.returns_mut.Goals as goal
 

@@ -1,5 +1,4 @@
 -- `typecheck::receivers::check_fn_kind` meets its contract: each test that the code makes is that of the definition. Assumes nothing.
-use borrow.Author.Rules.{rules}
 use Rattle.errors.specs.Sink.{silent, taken, left}
 use Rattle.typecheck.proofs.receivers.check_fn_kind.Goals as goal
 

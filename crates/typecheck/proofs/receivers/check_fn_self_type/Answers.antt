@@ -1,5 +1,4 @@
 -- `typecheck::receivers::check_fn_self_type` meets its contract: each test that the code makes is that of the definition. Assumes nothing.
-use borrow.Author.Rules.{rules}
 use Rattle.rules.specs.Diagnostics.{when}
 use Rattle.errors.specs.Sink.{meant-if, taken, left}
 use Rattle.rules.specs.Check.{check_fn_self_type}

@@ -1,5 +1,4 @@
 -- `typecheck::receivers::is_undeclared` meets its contract: what its calls ensure, put together. Assumes nothing.
-use borrow.Author.Rules.{rules}
 use Rattle.typecheck.proofs.receivers.is_undeclared.Goals as goal
 
 pub returns : goal.returns

@@ -1,13 +1,8 @@
-use borrow.Author.Rules.{rules}
-use Prim.Native.Nat.{◌≤◌, ◌-◌}
 use mathlib.Core.Path.{◌≡◌, refl, ◌∙◌}
 use native.Mathlib.Omega.{arith}
-use lib.ListN.{length}
-use Rattle.rules.specs.Base.{over}
 use Rattle.rules.specs.View.{lifetime_count, lifetime}
 use Rattle.rules.specs.Check.{check_reserved_lifetime, check_lifetimes}
-use Rattle.errors.specs.Sink.{Reported, start, turn, whole}
-use Rattle.typecheck.specs.Tests.{reserved_lifetime}
+use Rattle.errors.specs.Sink.{start, turn, whole}
 use Rattle.typecheck.proofs.reserved.check_lifetimes.Goals as goal
 
 pub loop-j-init : goal.loop-j-init

@@ -1,13 +1,10 @@
 -- `typecheck::reserved::check_lifetimes` meets its contract: the lifetimes before j have given their messages. Assumes nothing.
-use borrow.Author.Rules.{rules}
 use Prim.Native.Nat.{◌≤◌, ◌-◌}
-use mathlib.Core.Path.{◌≡◌, refl, ◌∙◌}
-use native.Mathlib.Omega.{arith}
+use mathlib.Core.Path.{◌≡◌}
 use lib.ListN.{length}
 use Rattle.rules.specs.Base.{over}
-use Rattle.rules.specs.View.{lifetime_count, lifetime}
-use Rattle.rules.specs.Check.{check_reserved_lifetime, check_lifetimes}
-use Rattle.errors.specs.Sink.{Reported, start, turn, whole}
+use Rattle.rules.specs.View.{lifetime}
+use Rattle.errors.specs.Sink.{Reported}
 use Rattle.typecheck.specs.Tests.{reserved_lifetime}
 use Rattle.typecheck.proofs.reserved.check_lifetimes.Given as goal
 

@@ -1,5 +1,4 @@
 -- `typecheck::reserved::check_reserved_lifetime` meets its contract: the test is that of the definition. Assumes nothing.
-use borrow.Author.Rules.{rules}
 use Rattle.typecheck.proofs.reserved.check_reserved_lifetime.Goals as goal
 
 pub returns : goal.returns

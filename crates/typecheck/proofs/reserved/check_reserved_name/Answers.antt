@@ -1,5 +1,4 @@
 -- `typecheck::reserved::check_reserved_name` meets its contract: the test is that of the definition. Assumes nothing.
-use borrow.Author.Rules.{rules}
 use Rattle.errors.specs.Sink.{meant-if}
 use Rattle.rules.specs.Check.{check_reserved_name}
 use Rattle.rules.specs.Names.{is_reserved}

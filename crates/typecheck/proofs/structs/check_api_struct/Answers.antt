@@ -1,5 +1,4 @@
 -- `typecheck::structs::check_api_struct` meets its contract: its parts report one after the other. Assumes nothing.
-use borrow.Author.Rules.{rules}
 use mathlib.Core.Path.{refl, ◌∙◌}
 use Rattle.errors.specs.Sink.{also, also-if, meant}
 use Rattle.rules.specs.Check.{check_struct_derive, check_api_struct}

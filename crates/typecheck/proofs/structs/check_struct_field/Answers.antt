@@ -1,5 +1,4 @@
 -- `typecheck::structs::check_struct_field` meets its contract: each test that the code makes is that of the definition. Assumes nothing.
-use borrow.Author.Rules.{rules}
 use mathlib.Core.Path.{refl}
 use borrow.Author.Tests.{eq-eqb, ne_eqb}
 use Rattle.rules.specs.Diagnostics.{when}

@@ -1,11 +1,8 @@
-use borrow.Author.Rules.{rules}
-use Prim.Native.Nat.{◌+◌, ◌-◌}
-use mathlib.Core.Path.{◌≡◌, refl, ◌∙◌}
+use Prim.Native.Nat.{◌+◌}
+use mathlib.Core.Path.{refl, ◌∙◌}
 use native.Mathlib.Omega.{arith}
-use lib.ListN.{length}
-use Rattle.rules.specs.Base.{over}
-use Rattle.errors.specs.Sink.{Reported, start, turn}
-use Rattle.typecheck.proofs.Faulty.{FaultsLeft, field_says, fields_in, all_left, fault-is, next-fault, less-left, to-next, to_end}
+use Rattle.errors.specs.Sink.{start, turn}
+use Rattle.typecheck.proofs.Faulty.{fields_in, all_left, fault-is, next-fault, less-left, to-next, to_end}
 use Rattle.typecheck.proofs.structs.check_struct_fields.Goals as goal
 
 pub unlike-left-requires : goal.unlike-left-requires

@@ -1,13 +1,11 @@
 -- `typecheck::structs::check_struct_fields` meets its contract: the fields before k have given their messages, and the word has the faults of the others.
 -- Assumes nothing.
-use borrow.Author.Rules.{rules}
-use Prim.Native.Nat.{◌+◌, ◌-◌}
-use mathlib.Core.Path.{◌≡◌, refl, ◌∙◌}
-use native.Mathlib.Omega.{arith}
+use Prim.Native.Nat.{◌-◌}
+use mathlib.Core.Path.{◌≡◌}
 use lib.ListN.{length}
 use Rattle.rules.specs.Base.{over}
-use Rattle.errors.specs.Sink.{Reported, start, turn}
-use Rattle.typecheck.proofs.Faulty.{FaultsLeft, field_says, fields_in, all_left, fault-is, next-fault, less-left, to-next, to_end}
+use Rattle.errors.specs.Sink.{Reported}
+use Rattle.typecheck.proofs.Faulty.{FaultsLeft, field_says}
 use Rattle.typecheck.proofs.structs.check_struct_fields.Given as goal
 
 abbrev pub invariant-loop-left : goal.invariant-loop-left

@@ -1,5 +1,4 @@
 -- `typecheck::structs::check_untrusted` meets its contract: the test is that of the definition. Assumes nothing.
-use borrow.Author.Rules.{rules}
 use Rattle.errors.specs.Sink.{meant-if}
 use Rattle.typecheck.proofs.structs.check_untrusted.Goals as goal
 

@@ -1,11 +1,6 @@
-use borrow.Author.Rules.{rules}
-use Prim.Native.Nat.{◌≤◌, ◌-◌}
 use mathlib.Core.Path.{◌≡◌, refl, ◌∙◌}
 use native.Mathlib.Omega.{arith}
-use lib.ListN.{length}
-use Rattle.rules.specs.Base.{over}
-use Rattle.errors.specs.Sink.{Reported, meant-if, start, turn, whole}
-use Rattle.typecheck_rows.specs.Tests.{pointer_arg}
+use Rattle.errors.specs.Sink.{meant-if, start, turn, whole}
 use Rattle.typecheck_rows.proofs.rows.check_fn_args.Goals as goal
 
 pub loop-j-init : goal.loop-j-init

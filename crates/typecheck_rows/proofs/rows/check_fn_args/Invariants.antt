@@ -1,11 +1,9 @@
 -- `typecheck_rows::rows::check_fn_args` meets its contract: the arguments before j have given their messages. Assumes nothing.
-use borrow.Author.Rules.{rules}
 use Prim.Native.Nat.{◌≤◌, ◌-◌}
-use mathlib.Core.Path.{◌≡◌, refl, ◌∙◌}
-use native.Mathlib.Omega.{arith}
+use mathlib.Core.Path.{◌≡◌}
 use lib.ListN.{length}
 use Rattle.rules.specs.Base.{over}
-use Rattle.errors.specs.Sink.{Reported, meant-if, start, turn, whole}
+use Rattle.errors.specs.Sink.{Reported}
 use Rattle.typecheck_rows.specs.Tests.{pointer_arg}
 use Rattle.typecheck_rows.proofs.rows.check_fn_args.Given as goal
 

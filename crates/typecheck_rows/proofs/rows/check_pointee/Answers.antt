@@ -1,5 +1,4 @@
 -- `typecheck_rows::rows::check_pointee` meets its contract: its parts report one after the other. Assumes nothing.
-use borrow.Author.Rules.{rules}
 use Rattle.errors.specs.Sink.{also-if, meant-if}
 use Rattle.typecheck_rows.proofs.rows.check_pointee.Goals as goal
 

@@ -1,5 +1,4 @@
 -- `typecheck_rows::rows::check_type` meets its contract: each arm is the entry of the table at its kind. Assumes nothing.
-use borrow.Author.Rules.{rules}
 use mathlib.Core.Path.{refl, sym, ◌∙◌}
 use native.Mathlib.Nat.{lt_trans}
 use Rattle.rules.specs.Check.{type_checks}

@@ -1,5 +1,4 @@
 -- `typecheck_rows::rows::check_type_fn` meets its contract: its parts report one after the other. Assumes nothing.
-use borrow.Author.Rules.{rules}
 use Rattle.errors.specs.Sink.{also, meant-if}
 use Rattle.rules.specs.Check.{check_type_fn}
 use Rattle.typecheck_rows.proofs.rows.check_type_fn.Goals as goal

@@ -1,5 +1,4 @@
 -- `typecheck_rows::rows::check_type_ident` meets its contract: the test is that of the definition. Assumes nothing.
-use borrow.Author.Rules.{rules}
 use Rattle.errors.specs.Sink.{meant-if}
 use Rattle.rules.specs.Check.{check_type_ident}
 use Rattle.typecheck_rows.proofs.rows.check_type_ident.Goals as goal

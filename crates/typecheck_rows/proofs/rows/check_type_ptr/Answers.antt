@@ -1,5 +1,4 @@
 -- `typecheck_rows::rows::check_type_ptr` meets its contract: what its calls ensure, put together. Assumes nothing.
-use borrow.Author.Rules.{rules}
 use Rattle.rules.specs.Check.{check_type_ptr}
 use Rattle.typecheck_rows.proofs.rows.check_type_ptr.Goals as goal
 

@@ -1,5 +1,4 @@
 -- `typecheck_rows::rows::check_type_ref` meets its contract: its parts report one after the other. Assumes nothing.
-use borrow.Author.Rules.{rules}
 use mathlib.Core.List.{append_assoc}
 use Rattle.errors.specs.Sink.{also, meant-if}
 use Rattle.rules.specs.Check.{check_type_ref}

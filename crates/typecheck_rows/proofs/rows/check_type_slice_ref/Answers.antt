@@ -1,5 +1,4 @@
 -- `typecheck_rows::rows::check_type_slice_ref` meets its contract: the test is that of the definition. Assumes nothing.
-use borrow.Author.Rules.{rules}
 use Rattle.errors.specs.Sink.{meant-if}
 use mathlib.Core.Path.{ap, ◌∙◌}
 use mathlib.Core.Bool.{not}

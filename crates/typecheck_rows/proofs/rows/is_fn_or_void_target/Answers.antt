@@ -1,5 +1,4 @@
 -- `typecheck_rows::rows::is_fn_or_void_target` meets its contract: what its calls ensure, put together. Assumes nothing.
-use borrow.Author.Rules.{rules}
 use Rattle.typecheck_rows.proofs.rows.is_fn_or_void_target.Goals as goal
 
 pub returns : goal.returns

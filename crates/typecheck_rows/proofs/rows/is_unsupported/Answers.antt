@@ -1,5 +1,4 @@
 -- `typecheck_rows::rows::is_unsupported` meets its contract: what its calls ensure, put together. Assumes nothing.
-use borrow.Author.Rules.{rules}
 use Rattle.typecheck_rows.proofs.rows.is_unsupported.Goals as goal
 
 pub returns : goal.returns

@@ -1,5 +1,4 @@
 -- `typecheck_rows::rows::requires_pin` meets its contract: what its calls ensure, put together. Assumes nothing.
-use borrow.Author.Rules.{rules}
 use Rattle.rules.specs.Check.{requires_pin}
 use Rattle.typecheck_rows.proofs.rows.requires_pin.Goals as goal
 

@@ -1,5 +1,4 @@
 -- `typecheck_rows::targets::check_type_box` meets its contract: 4 and then 5, by the tests of the definition. Assumes nothing.
-use borrow.Author.Rules.{rules}
 use Rattle.errors.specs.Sink.{also-if, meant-if}
 use mathlib.Core.Path.{ap}
 use mathlib.Core.Bool.{not}

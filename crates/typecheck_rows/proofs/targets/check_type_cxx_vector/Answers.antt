@@ -1,5 +1,4 @@
 -- `typecheck_rows::targets::check_type_cxx_vector` meets its contract: each test that the code makes is that of the definition. Assumes nothing.
-use borrow.Author.Rules.{rules}
 use Rattle.errors.specs.Sink.{taken, left, unless}
 use Rattle.rules.specs.Check.{check_type_cxx_vector}
 use Rattle.rules.specs.Diagnostics.{when}

@@ -1,5 +1,4 @@
 -- `typecheck_rows::targets::check_type_rust_vec` meets its contract: a Box inside gives its own messages, at its own row. Assumes nothing.
-use borrow.Author.Rules.{rules}
 use Rattle.errors.specs.Sink.{meant, taken, left, silent}
 use Rattle.rules.specs.Check.{check_type_box, check_type_rust_vec}
 use Rattle.rules.specs.Diagnostics.{when}

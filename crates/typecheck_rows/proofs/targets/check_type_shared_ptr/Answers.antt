@@ -1,5 +1,4 @@
 -- `typecheck_rows::targets::check_type_shared_ptr` meets its contract: the one rule, with its messages. Assumes nothing.
-use borrow.Author.Rules.{rules}
 use Rattle.rules.specs.Check.{check_type_shared_ptr}
 use Rattle.typecheck_rows.proofs.targets.check_type_shared_ptr.Goals as goal
 

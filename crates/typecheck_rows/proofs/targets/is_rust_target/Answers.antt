@@ -1,5 +1,4 @@
 -- `typecheck_rows::targets::is_rust_target` meets its contract: what its calls ensure, put together. Assumes nothing.
-use borrow.Author.Rules.{rules}
 use Rattle.typecheck_rows.proofs.targets.is_rust_target.Goals as goal
 
 pub returns : goal.returns

@@ -1,5 +1,4 @@
 -- `typecheck_rows::targets::target_is` meets its contract: what its calls ensure, put together. Assumes nothing.
-use borrow.Author.Rules.{rules}
 use Rattle.typecheck_rows.proofs.targets.target_is.Goals as goal
 
 pub returns : goal.returns

@@ -1,5 +1,4 @@
 -- `typecheck_rows::targets::target_name` meets its contract: what its calls ensure, put together. Assumes nothing.
-use borrow.Author.Rules.{rules}
 use Rattle.typecheck_rows.proofs.targets.target_name.Goals as goal
 
 pub returns : goal.returns
