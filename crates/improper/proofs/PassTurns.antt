@@ -11,7 +11,7 @@ use borrow.Author.Tests.{le-ltb, ne_eqb}
 use lib.Dec.{eqb}
 use lib.ListN.{length, get_or}
 use Rattle.rules.specs.Numbers.{no_item, name_count, most_rows}
-use Rattle.rules.specs.Base.{if◌then◌else◌}
+use Rattle.rules.specs.Base.{if'◌then◌else◌}
 use Rattle.rules.specs.Format.{pair_at}
 use Rattle.rules.specs.Names.{Words, ◌∋◌, add}
 use Rattle.rules.specs.View.{rows, rest, entry, field_count, field}
@@ -32,10 +32,10 @@ pub hits-name : (w : Words) (c : ℕ) → c < name_count → (w ∋ c) ≡ hits 
 hits-name w c h = rw (look-name c h)
 
 pub hits-code : (w : Words) (c : ℕ) → name_count ≤ c → eqb c name_count ≡ hits w (look_of c)
-unfolding look_of if◌then◌else◌
-hits-code w c h = rw (le-ltb c name_count h, if◌then◌else◌) (go (eqb c name_count))
+unfolding look_of if'◌then◌else◌
+hits-code w c h = rw (le-ltb c name_count h, if'◌then◌else◌) (go (eqb c name_count))
   where
-    go : (b : Bool) → b ≡ hits w (if b then bad else fine)
+    go : (b : Bool) → b ≡ hits w (if' b then bad else fine)
     go true = refl
     go false = refl
 
@@ -55,7 +55,7 @@ module _ (s names looks : List ℕ) (given : Searchable s names looks) (n i : �
   struct_is = e ∙ ap (λ (t : Types). struct_of t n) given.own
 
   pub fields-none : i ≡ no_item → looks_fields s (types_of s) n ≡ 0
-  unfolding looks_fields if◌then◌else◌
+  unfolding looks_fields if'◌then◌else◌
   fields-none q = rw (← struct_is, q)
 
   module _ (ne : i ≢ no_item) where
@@ -63,12 +63,12 @@ module _ (s names looks : List ℕ) (given : Searchable s names looks) (n i : �
     is-item = (of-last s n i (sym struct_is) ne).struct
 
     fields-are : (at m : ℕ) → at ≡ rest s i → m ≡ pair_at s at → m ≡ looks_fields s (types_of s) n
-    unfolding looks_fields field_count if◌then◌else◌
-    fields-are at m a q = rw (← struct_is, ne_eqb i no_item ne, if◌then◌else◌, ← a) q
+    unfolding looks_fields field_count if'◌then◌else◌
+    fields-are at m a q = rw (← struct_is, ne_eqb i no_item ne, if'◌then◌else◌, ← a) q
 
     counts : looks_fields s (types_of s) n ≡ field_count s i
-    unfolding looks_fields if◌then◌else◌
-    counts = rw (← struct_is, ne_eqb i no_item ne, if◌then◌else◌)
+    unfolding looks_fields if'◌then◌else◌
+    counts = rw (← struct_is, ne_eqb i no_item ne, if'◌then◌else◌)
 
     of_struct : StructOf s i
     of_struct = (item-of s given.accepted i is-item.below).as_struct is-item.is_struct

@@ -12,7 +12,7 @@ use lib.Dec.{eqb}
 use lib.ListN.{length, length-set, get_or, set}
 use lib.Seq.{get_or-set_same, get_or-set_other}
 use Rattle.rules.specs.Numbers.{name_count}
-use Rattle.rules.specs.Base.{if◌then◌else◌}
+use Rattle.rules.specs.Base.{if'◌then◌else◌}
 use Rattle.rules.specs.Names.{Words, ◌∋◌, add}
 use Rattle.rules.specs.Types.{types_of}
 use Rattle.rules.specs.Improper.{Look, fine, bad, to, looks_look}
@@ -57,13 +57,13 @@ module _ (w : Words) (c : ℕ) where
       })
 
   pub took-none : name_count ≤ c → length w ≡ 4 → Took w c w
-  unfolding look_of if◌then◌else◌
+  unfolding look_of if'◌then◌else◌
   took-none l long = record { long = long; keeps = λ j h. h; has = λ j h. never (sym (none (eqb c name_count)) ∙ ap is_name (sym look-other ∙ h)) }
     where
-      look-other : look_of c ≡ (if eqb c name_count then bad else fine)
-      look-other = rw (le-ltb c name_count l, if◌then◌else◌)
+      look-other : look_of c ≡ (if' eqb c name_count then bad else fine)
+      look-other = rw (le-ltb c name_count l, if'◌then◌else◌)
 
-      none : (b : Bool) → is_name (if b then bad else fine) ≡ false
+      none : (b : Bool) → is_name (if' b then bad else fine) ≡ false
       none true = refl
       none false = refl
 

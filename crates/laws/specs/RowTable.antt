@@ -2,7 +2,7 @@
 -- Assumes nothing: these are definitions.
 use Rattle.std.specs.Prelude.{ℕ, ◌≤◌, ◌<◌, ◌≡◌, ◌≢◌, List, Bool, ltb, eqb, get_or}
 use Rattle.rules.specs.Numbers.{no_item, most_rows}
-use Rattle.rules.specs.Base.{if◌then◌else◌}
+use Rattle.rules.specs.Base.{if'◌then◌else◌}
 use Rattle.rules.specs.View.{rows}
 use Rattle.rules.specs.Rule3.{IsStruct}
 
@@ -17,7 +17,7 @@ RowTable s f d = TableOf (λ n. n) (rows s) f d
 
 -- entry r as the code reads it: there is room for 1,024
 unfoldable pub read_at : (d : List ℕ) (r : ℕ) → ℕ
-read_at d r = if ltb r most_rows then get_or d r 0 else 0
+read_at d r = if' ltb r most_rows then get_or d r 0 else 0
 
 -- ## Tables of tests
 
@@ -41,4 +41,4 @@ pub record LeadTable (s d : List ℕ) : Type 0 where
 
 -- what a row leads to by the table; to none, where it is no row of the sheet
 unfoldable pub lead_by : (s d : List ℕ) → (row : ℕ) → ℕ
-lead_by s d r = if ltb r (rows s) then get_or d r 0 else no_item
+lead_by s d r = if' ltb r (rows s) then get_or d r 0 else no_item

@@ -3,7 +3,7 @@
 -- Assumes nothing: these are definitions.
 use Rattle.std.specs.Prelude.{ℕ, zero, suc, ◌+◌, ◌-◌, List, [], ◌∷◌, ◌||◌, length, take, drop, ltb, eqb}
 use Rattle.rules.specs.Numbers.{Ident, Ref, Ptr, SliceRef, Array, Fn, no_row}
-use Rattle.rules.specs.Base.{if◌then◌else◌}
+use Rattle.rules.specs.Base.{if'◌then◌else◌}
 use Rattle.rules.specs.Diagnostics.{bit}
 use Rattle.rules.specs.Format.{offset}
 use Rattle.rules.specs.View.{rows, items, kind, row_name, row_flags, fn_return, shown}
@@ -26,7 +26,7 @@ module _ (s : List ℕ) where
 
   -- where body b begins, rows first: as the contents say; and behind the last body, where the sheet ends
   unfoldable pub begins : (b : ℕ) → ℕ
-  begins b = if ltb b (rows s + items s) then offset s b else length s
+  begins b = if' ltb b (rows s + items s) then offset s b else length s
 
   -- row r's bytes, up to where the next body begins
   unfoldable pub row_bytes : (r : ℕ) → List ℕ
@@ -38,9 +38,9 @@ module _ (s : List ℕ) where
   unfoldable pub numbers : (r : ℕ) → List ℕ
   numbers r =
       let k = kind s r in
-      if eqb k Ident then row_name s r ∷ [] else
-      if eqb k Fn then row_flags s r ∷ bit (eqb (fn_return s r) no_row) ∷ [] else
-      if eqb k Ref || eqb k Ptr || eqb k SliceRef || eqb k Array then row_flags s r ∷ [] else []
+      if' eqb k Ident then row_name s r ∷ [] else
+      if' eqb k Fn then row_flags s r ∷ bit (eqb (fn_return s r) no_row) ∷ [] else
+      if' eqb k Ref || eqb k Ptr || eqb k SliceRef || eqb k Array then row_flags s r ∷ [] else []
 
   -- rows refer to smaller rows: above the row, the fuel is of no account
   unfoldable pub tree : (fuel r : ℕ) → Tree

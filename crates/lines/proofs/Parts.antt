@@ -11,7 +11,7 @@ use lib.Seq.{take_all, take-take}
 use Rattle.rules.specs.declared.Place.{Place}
 use Rattle.rules.specs.declared.Place.TheVariants.{R, G, I, F, A, O, D, L}
 use Rattle.rules.specs.declared.Diagnostic.{Diagnostic}
-use Rattle.rules.specs.Base.{if◌then◌else◌, over}
+use Rattle.rules.specs.Base.{if'◌then◌else◌, over}
 use Rattle.rules.specs.Names.{Words, ◌∋◌}
 use Rattle.rules.specs.Diagnostics.{letter_of, numbers_of}
 use Rattle.rules.specs.Text.{ascii, spaced, line, tiers_along, members_to, place_text, record_line, printed}
@@ -45,13 +45,13 @@ along tiers (i ∷ l) = ap (λ (t : List ℕ). spaced (get_or tiers i 0) ++ t) (
 
 -- ## Names
 
-pub if_yes : (b : Bool) (n : ℕ) → b ≡ true → spaced n ≡ flat_map spaced (if b then n ∷ [] else [])
-unfolding if◌then◌else◌
+pub if_yes : (b : Bool) (n : ℕ) → b ≡ true → spaced n ≡ flat_map spaced (if' b then n ∷ [] else [])
+unfolding if'◌then◌else◌
 if_yes true n e = flat-one spaced n
 if_yes false n e = never e
 
-pub if_no : (b : Bool) (n : ℕ) → b ≡ false → [] ≡ flat_map spaced (if b then n ∷ [] else [])
-unfolding if◌then◌else◌ flat_map
+pub if_no : (b : Bool) (n : ℕ) → b ≡ false → [] ≡ flat_map spaced (if' b then n ∷ [] else [])
+unfolding if'◌then◌else◌ flat_map
 if_no true n e = never (sym e)
 if_no false n e = refl
 
@@ -60,16 +60,16 @@ unfolding members_to over flat_map
 members-start b at w = none b at
 
 pub members-turn : {b b' b'' : List ℕ} {at m n : ℕ} (k : ℕ) (w : Words) (x : Bool) → x ≡ (w ∋ k) → Put b at (flat_map spaced (members_to k w)) m b'
-    → Put b' m (flat_map spaced (if x then k ∷ [] else [])) n b'' → Put b at (flat_map spaced (members_to (k + 1) w)) n b''
+    → Put b' m (flat_map spaced (if' x then k ∷ [] else [])) n b'' → Put b at (flat_map spaced (members_to (k + 1) w)) n b''
 unfolding members_to
 members-turn k w x e p q =
-    meant (also p q) (ap (λ (y : Bool). flat_map spaced (members_to k w) ++ flat_map spaced (if y then k ∷ [] else [])) e
-    ∙ flat-over spaced (λ j. if w ∋ j then j ∷ [] else []) k)
+    meant (also p q) (ap (λ (y : Bool). flat_map spaced (members_to k w) ++ flat_map spaced (if' y then k ∷ [] else [])) e
+    ∙ flat-over spaced (λ j. if' w ∋ j then j ∷ [] else []) k)
 
 -- ## A place
 
-numbers-are : (p : Place) → get_or (numbers_of p) 0 0 ∷ (if has_second p then get_or (numbers_of p) 1 0 ∷ [] else []) ≡ numbers_of p
-unfolding if◌then◌else◌
+numbers-are : (p : Place) → get_or (numbers_of p) 0 0 ∷ (if' has_second p then get_or (numbers_of p) 1 0 ∷ [] else []) ≡ numbers_of p
+unfolding if'◌then◌else◌
 numbers-are (R r) = refl
 numbers-are (G r j) = refl
 numbers-are (I i) = refl
@@ -81,13 +81,13 @@ numbers-are (L i j) = refl
 
 module _ (p : Place) where
   made : (letter first second : ℕ) → Bool → List ℕ
-  made x a y b = ((ascii " " ++ (x ∷ [])) ++ spaced a) ++ flat_map spaced (if b then y ∷ [] else [])
+  made x a y b = ((ascii " " ++ (x ∷ [])) ++ spaced a) ++ flat_map spaced (if' b then y ∷ [] else [])
 
   pub place_is : {x a y : ℕ} {b : Bool} → x ≡ letter_of p → a ≡ get_or (numbers_of p) 0 0 → b ≡ has_second p → y ≡ get_or (numbers_of p) 1 0
-      → ((ascii " " ++ (x ∷ [])) ++ spaced a) ++ flat_map spaced (if b then y ∷ [] else []) ≡ place_text p
+      → ((ascii " " ++ (x ∷ [])) ++ spaced a) ++ flat_map spaced (if' b then y ∷ [] else []) ≡ place_text p
   unfolding place_text made flat_map
   place_is {x} {a} {y} {b} e f g h =
-      let rest : List ℕ = if has_second p then get_or (numbers_of p) 1 0 ∷ [] else [] in
+      let rest : List ℕ = if' has_second p then get_or (numbers_of p) 1 0 ∷ [] else [] in
       ap (λ (z : ℕ). made z a y b) e
       ∙ ap (λ (z : ℕ). made (letter_of p) z y b) f
       ∙ ap (λ (z : ℕ). made (letter_of p) (get_or (numbers_of p) 0 0) z b) h

@@ -2,7 +2,7 @@
 ghost use Rattle.std.specs.Prelude.{◌≡◌, ◌+◌, ◌*◌, ◌≤◌, length, get_or, take};
 ghost use mathlib.Core.List.{[], ◌∷◌, flat_map};
 ghost use Rattle.rules.specs.Numbers.{name_count};
-ghost use Rattle.rules.specs.Base.{if◌then◌else◌};
+ghost use Rattle.rules.specs.Base.{if'◌then◌else◌};
 ghost use Rattle.rules.specs.Text.{spaced, tiers_along, members_to};
 ghost use Rattle.lines.specs.Put.{Put};
 
@@ -66,7 +66,7 @@ pub fn put_along(out: &mut [u8], at: usize, order: &[u8], tiers: &[u8], n: usize
 
 pub fn put_if(out: &mut [u8], at: usize, yes: bool, n: u8) -> usize
     requires { at + 4 ≤ length out.old }
-    ensures put { Put out.old at (flat_map spaced (if yes then n ∷ [] else [])) result out.new }
+    ensures put { Put out.old at (flat_map spaced (if' yes then n ∷ [] else [])) result out.new }
     ensures upper_bound { result ≤ at + 4 }
 {
     if yes {

@@ -14,7 +14,7 @@ use lib.Seq.{get_or-set_same, get_or-set_other}
 use lib.Dec.{ltb}
 use borrow.Author.Tests.{lt-ltb, le-ltb}
 use Rattle.rules.specs.Numbers.{no_item, name_count}
-use Rattle.rules.specs.Base.{if◌then◌else◌, over}
+use Rattle.rules.specs.Base.{if'◌then◌else◌, over}
 use Rattle.rules.specs.Names.{Words, empty, ◌∋◌, add, names_below}
 use Rattle.laws.proofs.Base.Tests.{and-false}
 use Rattle.laws.proofs.Base.Lists.{over-length, over-get}
@@ -25,15 +25,15 @@ use Rattle.names.specs.Known.{column_count, entry_at, item_in, names_in, last_in
 
 module _ (w : List ℕ) (k n : ℕ) where
   pub entry_in : k < column_count → n < name_count → entry_at w k n ≡ get_or w (name_count * k + n) 0
-  unfolding entry_at if◌then◌else◌
+  unfolding entry_at if'◌then◌else◌
   entry_in h l = rw (lt-ltb k column_count h, lt-ltb n name_count l) refl
 
   pub entry_past : column_count ≤ k → entry_at w k n ≡ 0
-  unfolding entry_at if◌then◌else◌
+  unfolding entry_at if'◌then◌else◌
   entry_past h = rw (le-ltb k column_count h) refl
 
   pub entry-out : name_count ≤ n → entry_at w k n ≡ 0
-  unfolding entry_at if◌then◌else◌
+  unfolding entry_at if'◌then◌else◌
   entry-out l = rw (le-ltb n name_count l, and-false (ltb k column_count)) refl
 
   -- ## Columns
@@ -104,26 +104,26 @@ module _ (w : List ℕ) (k : ℕ) where
 
 module _ (w : List ℕ) (k n x : ℕ) where
   pub entered-not : {so : Bool} → so ≡ false → w ≡ entered w k so n x
-  unfolding entered if◌then◌else◌
+  unfolding entered if'◌then◌else◌
   entered-not e = rw e refl
 
   pub entered-past : {so : Bool} → so ≡ true → column_count ≤ k → w ≡ entered w k so n x
-  unfolding entered if◌then◌else◌
+  unfolding entered if'◌then◌else◌
   entered-past e h = rw (e, le-ltb k column_count h) refl
 
   pub entered-out : {so : Bool} → so ≡ true → name_count ≤ n → w ≡ entered w k so n x
-  unfolding entered if◌then◌else◌
+  unfolding entered if'◌then◌else◌
   entered-out e l = rw (e, le-ltb n name_count l, and-false (ltb k column_count)) refl
 
   pub entered-in : {so : Bool} → so ≡ true → k < column_count → n < name_count → set w (name_count * k + n) x ≡ entered w k so n x
-  unfolding entered if◌then◌else◌
+  unfolding entered if'◌then◌else◌
   entered-in e h l = rw (e, lt-ltb k column_count h, lt-ltb n name_count l) refl
 
   pub entered-long : (so : Bool) → length (entered w k so n x) ≡ length w
-  unfolding entered if◌then◌else◌
+  unfolding entered if'◌then◌else◌
   entered-long so = go (so && ltb k column_count && ltb n name_count)
     where
-      go : (b : Bool) → length (if b then set w (name_count * k + n) x else w) ≡ length w
+      go : (b : Bool) → length (if' b then set w (name_count * k + n) x else w) ≡ length w
       go true = length-set w (name_count * k + n) x
       go false = refl
 

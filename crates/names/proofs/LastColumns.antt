@@ -14,7 +14,7 @@ use lib.ListN.{length, get_or, set, replicate, get_or-replicate}
 use lib.Seq.{get_or-set_same, get_or-set_other, ext_get_or}
 use borrow.Author.Tests.{lt-ltb, ne_eqb}
 use Rattle.rules.specs.Numbers.{no_item, name_count, most_items}
-use Rattle.rules.specs.Base.{if◌then◌else◌}
+use Rattle.rules.specs.Base.{if'◌then◌else◌}
 use Rattle.rules.specs.Names.{◌∋◌}
 use Rattle.rules.specs.View.{item_name}
 use Rattle.rules.specs.Collect.{names_to, last_to}
@@ -30,19 +30,19 @@ use Rattle.names.proofs.Columns.{entry_in, has-is, last-is as item-is, entered-n
 -- ## An item and its entry
 
 entry-item : (i : ℕ) → item_in (entry_of i) ≡ i
-unfolding if◌then◌else◌
+unfolding if'◌then◌else◌
 entry-item i = go (eq? i no_item)
   where
-    go : Eq? i no_item → item_in (if eqb i no_item then 0 else i + 1) ≡ i
+    go : Eq? i no_item → item_in (if' eqb i no_item then 0 else i + 1) ≡ i
     go (same e q) = rw e (sym q)
     go (other e q) = rw (e, add-one i) refl
 
 entry-none : ltb 0 (entry_of no_item) ≡ false
-unfolding if◌then◌else◌
+unfolding if'◌then◌else◌
 entry-none = refl
 
 pub entry-some : (i : ℕ) → i < most_items → entry_of i ≡ i + 1
-unfolding if◌then◌else◌
+unfolding if'◌then◌else◌
 entry-some i l = rw (ne_eqb i no_item (λ e. omega arith)) refl
 
 -- ## What a column of last items is
@@ -77,7 +77,7 @@ lasts_are {s} {w} {p} {i} {k} h =
 -- ## From no items to one more
 
 pub column-start : (s : List ℕ) (p : ℕ → Bool) (m k : ℕ) → k < column_count → LastColumn s p 0 (replicate m 0) k
-unfolding last_to if◌then◌else◌
+unfolding last_to if'◌then◌else◌
 column-start s p m k h =
     record {
       at = λ n l. entry_in (replicate m 0) k n h l ∙ zeros-get m (name_count * k + n) ∙ sym (ap entry_of (get_or-replicate name_count n no_item no_item l));

@@ -4,7 +4,7 @@
 -- Assumes nothing: these are definitions.
 use Rattle.std.specs.Prelude.{ℕ, zero, suc, ◌+◌, ◌*◌, ◌<◌, ◌≡◌, Bool, ◌&&◌, List, [], ◌∷◌, get_or, set, ltb, eqb}
 use Rattle.rules.specs.Numbers.{no_item, name_count, struct_set, enum_set, cxx_set, rust_set, alias_set, untrusted_set, required_trivial_set}
-use Rattle.rules.specs.Base.{if◌then◌else◌, over}
+use Rattle.rules.specs.Base.{if'◌then◌else◌, over}
 use Rattle.rules.specs.Format.{Accepted}
 use Rattle.rules.specs.Names.{Words, names_below}
 use Rattle.rules.specs.Collect.{last_to}
@@ -22,7 +22,7 @@ table_size = name_count * column_count
 
 -- the entry of name n in column k; there is none in another column, or of a number that is no name
 unfoldable pub entry_at : List ℕ → (k n : ℕ) → ℕ
-entry_at w k n = if ltb k column_count && ltb n name_count then get_or w (name_count * k + n) 0 else 0
+entry_at w k n = if' ltb k column_count && ltb n name_count then get_or w (name_count * k + n) 0 else 0
 
 -- the item that an entry means
 abbrev pub item_in : ℕ → ℕ
@@ -31,7 +31,7 @@ item_in (suc i) = i
 
 -- the entry that means an item, or none
 abbrev pub entry_of : ℕ → ℕ
-entry_of i = if eqb i no_item then 0 else i + 1
+entry_of i = if' eqb i no_item then 0 else i + 1
 
 -- ## Columns
 
@@ -78,4 +78,4 @@ pub record OwnNames (s w : List ℕ) : Type 0 where
 
 -- name n gets the entry x in column k, if so
 unfoldable pub entered : List ℕ → (k : ℕ) → (so : Bool) → (n x : ℕ) → List ℕ
-entered w k so n x = if so && ltb k column_count && ltb n name_count then set w (name_count * k + n) x else w
+entered w k so n x = if' so && ltb k column_count && ltb n name_count then set w (name_count * k + n) x else w

@@ -12,7 +12,7 @@ use Rattle.rules.specs.Numbers.{scratch_size, page_size, answer_size}
 use Rattle.rules.specs.declared.Step.TheVariants.{Next, Refused}
 use Rattle.rules.specs.declared.Answer.{Answer}
 use Rattle.rules.specs.declared.Diagnostic.{Diagnostic}
-use Rattle.rules.specs.Base.{if◌then◌else◌}
+use Rattle.rules.specs.Base.{if'◌then◌else◌}
 use Rattle.rules.specs.Answer.{read_with, call}
 use Rattle.laws.proofs.Base.Stores.{sets-append, sets-kept}
 use Rattle.rules.specs.Diagnostics.{letter_of, numbers_of}
@@ -40,12 +40,12 @@ recorded {k = k} {a} {y} code d p e f g h =
 
 pub laid : {a : Answer} {ds : List Diagnostic} {n r q : ℕ} {out out₁ out₂ : List ℕ} → roomy ≤ length out → n ≤ page_size → Written a n out r out₁
     → Put out₁ answer_size (flat_map record_bytes ds) q out₂ → Laid a ds n out out₂
-unfolding headed fitting if◌then◌else◌
+unfolding headed fitting if'◌then◌else◌
 laid {a} {ds} {n} {out = out} {out₁} h k w p =
     let few : fitting n (length out) ≡ n = omega arith in
     let long : length (answer_bytes a n) ≡ answer_size = subst (λ (m : ℕ). length (answer_bytes a m) ≡ answer_size) few (w.long (omega arith)) in
     let behind : answer_size ≡ 0 + length (answer_bytes a n) = omega (arith, long) in
-    let front : out₁ ≡ sets out 0 (answer_bytes a n) = rw (le-leb answer_size (length out) (omega arith), if◌then◌else◌, few) at w.bytes in
+    let front : out₁ ≡ sets out 0 (answer_bytes a n) = rw (le-leb answer_size (length out) (omega arith), if'◌then◌else◌, few) at w.bytes in
     record {
       bytes =
           p.stored.stored

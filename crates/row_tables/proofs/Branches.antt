@@ -2,16 +2,16 @@
 -- Assumes nothing.
 use mathlib.Core.Path.{◌≡◌, sym, ap, ◌∙◌}
 use mathlib.Core.Bool.{Bool, true, false, ◌&&◌}
-use Rattle.rules.specs.Base.{if◌then◌else◌}
+use Rattle.rules.specs.Base.{if'◌then◌else◌}
 
 module _ {A : Type 0} (a b : A) where
-  pub if-taken : {v : A} {x y : Bool} → x ≡ true → v ≡ a → x ≡ y → v ≡ (if y then a else b)
-  unfolding if◌then◌else◌
-  if-taken t p e = p ∙ ap (λ (z : Bool). if z then a else b) (sym t ∙ e)
+  pub if-taken : {v : A} {x y : Bool} → x ≡ true → v ≡ a → x ≡ y → v ≡ (if' y then a else b)
+  unfolding if'◌then◌else◌
+  if-taken t p e = p ∙ ap (λ (z : Bool). if' z then a else b) (sym t ∙ e)
 
-  pub if-left : {v : A} {x y : Bool} → x ≡ false → v ≡ b → x ≡ y → v ≡ (if y then a else b)
-  unfolding if◌then◌else◌
-  if-left t p e = p ∙ ap (λ (z : Bool). if z then a else b) (sym t ∙ e)
+  pub if-left : {v : A} {x y : Bool} → x ≡ false → v ≡ b → x ≡ y → v ≡ (if' y then a else b)
+  unfolding if'◌then◌else◌
+  if-left t p e = p ∙ ap (λ (z : Bool). if' z then a else b) (sym t ∙ e)
 
 module _ (a b : Bool) where
   pub both-not : a ≡ false → false ≡ (a && b)

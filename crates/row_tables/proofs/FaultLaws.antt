@@ -6,7 +6,7 @@ use mathlib.Core.Bool.{Bool, true, false}
 use mathlib.Core.List.{List}
 use native.Mathlib.Omega.{arith}
 use Rattle.rules.specs.Numbers.{Fn}
-use Rattle.rules.specs.Base.{if◌then◌else◌}
+use Rattle.rules.specs.Base.{if'◌then◌else◌}
 use Rattle.rules.specs.View.{rows, is, row_name}
 use Rattle.rules.specs.Types.{Types}
 use Rattle.rules.specs.Check.{describe, describe_ident}
@@ -16,13 +16,13 @@ use Rattle.row_tables.specs.Tables.{UnsizedRows, fn_fault, fault_of, fault_by, f
 
 -- ## The branches of `describe` are 1 and more
 
-if_some : (b : Bool) {x y : ℕ} → 1 ≤ x → 1 ≤ y → 1 ≤ (if b then x else y)
-unfolding if◌then◌else◌
+if_some : (b : Bool) {x y : ℕ} → 1 ≤ x → 1 ≤ y → 1 ≤ (if' b then x else y)
+unfolding if'◌then◌else◌
 if_some true p q = p
 if_some false p q = q
 
 module _ (s : List ℕ) (t : Types) where
-  so : (b : Bool) (x : ℕ) {y : ℕ} → 1 ≤ y → 1 ≤ (if b then suc x else y)
+  so : (b : Bool) (x : ℕ) {y : ℕ} → 1 ≤ y → 1 ≤ (if' b then suc x else y)
   so b x q = if_some b (omega arith) q
 
   ident-some : (n : ℕ) → 1 ≤ describe_ident s t n
@@ -39,15 +39,15 @@ module _ (s : List ℕ) (t : Types) where
 
 module _ (p u : Bool) (d : ℕ) where
   pub fault-pointer : p ≡ true → fn_fault ≡ fault_of p u d
-  unfolding fault_of if◌then◌else◌
+  unfolding fault_of if'◌then◌else◌
   fault-pointer e = rw e
 
   pub fault-branch : p ≡ false → u ≡ true → d ≡ fault_of p u d
-  unfolding fault_of if◌then◌else◌
+  unfolding fault_of if'◌then◌else◌
   fault-branch e h = rw (e, h)
 
   pub fault-none : p ≡ false → u ≡ false → 0 ≡ fault_of p u d
-  unfolding fault_of if◌then◌else◌
+  unfolding fault_of if'◌then◌else◌
   fault-none e h = rw (e, h)
 
 -- ## The tables

@@ -7,7 +7,7 @@ use native.Mathlib.Omega.{arith}
 use native.Mathlib.Decide.{dec_lt}
 use borrow.Author.Tests.{lt-ltb, le-ltb}
 use Rattle.rules.specs.Numbers.{no_item}
-use Rattle.rules.specs.Base.{if◌then◌else◌}
+use Rattle.rules.specs.Base.{if'◌then◌else◌}
 use Rattle.rules.specs.Format.{Accepted}
 use Rattle.rules.specs.View.{row_name}
 use Rattle.rules.specs.Types.{types_of, struct_of}
@@ -18,7 +18,7 @@ use Rattle.laws.proofs.Names.LastItems.{of-last}
 use Rattle.row_tables.specs.Tables.{item_byte, lead_byte}
 
 byte-is : (i : ℕ) → i ≤ no_item → item_byte i ≡ i
-unfolding item_byte if◌then◌else◌
+unfolding item_byte if'◌then◌else◌
 byte-is i h = go (dec_lt i no_item)
   where
     go : Dec (i < no_item) → item_byte i ≡ i

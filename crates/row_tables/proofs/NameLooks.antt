@@ -9,7 +9,7 @@ use native.Mathlib.Decide.{dec_lt}
 use borrow.Author.Tests.{lt-ltb, le-ltb}
 use lib.Dec.{eqb}
 use Rattle.rules.specs.Numbers.{name_count, atom_count, name_rust_string, struct_set, cxx_set}
-use Rattle.rules.specs.Base.{if◌then◌else◌}
+use Rattle.rules.specs.Base.{if'◌then◌else◌}
 use Rattle.rules.specs.Names.{◌∋◌, is_atom}
 use Rattle.rules.specs.Types.{Types, is_struct, is_cxx, is_rust, is_alias}
 use Rattle.rules.specs.Improper.{to, definite, look_name}
@@ -21,15 +21,15 @@ use Rattle.row_tables.specs.Tables.{look_of}
 -- ## A look as a number
 
 pub look-name : (c : ℕ) → c < name_count → look_of c ≡ to c
-unfolding look_of if◌then◌else◌
-look-name c h = rw (lt-ltb c name_count h, if◌then◌else◌)
+unfolding look_of if'◌then◌else◌
+look-name c h = rw (lt-ltb c name_count h, if'◌then◌else◌)
 
 pub look-improper : (b : Bool) → b ≡ true → look_of 256 ≡ definite b
-unfolding look_of if◌then◌else◌
+unfolding look_of if'◌then◌else◌
 look-improper b e = rw e
 
 pub look-proper : (b : Bool) → b ≡ false → look_of 257 ≡ definite b
-unfolding look_of if◌then◌else◌
+unfolding look_of if'◌then◌else◌
 look-proper b e = rw e
 
 -- ## A name
@@ -52,14 +52,14 @@ module _ (s w : List ℕ) (n : ℕ) where
   cxx-out h = none_out w cxx_set n h
 
   pub name-struct : atom_count ≤ n → is_struct (tabled s w) n ≡ true → look_of n ≡ look_name s (tabled s w) n
-  unfolding look_name is_atom if◌then◌else◌
-  name-struct h e = rw (le-ltb n atom_count h, if◌then◌else◌, e) (look-name n (struct-small e))
+  unfolding look_name is_atom if'◌then◌else◌
+  name-struct h e = rw (le-ltb n atom_count h, if'◌then◌else◌, e) (look-name n (struct-small e))
 
 module _ (s : List ℕ) (t : Types) (n r : ℕ) where
   pub name-atom : n < atom_count → look_of r ≡ definite (eqb n name_rust_string) → look_of r ≡ look_name s t n
-  unfolding look_name is_atom if◌then◌else◌
-  name-atom h e = rw (lt-ltb n atom_count h, if◌then◌else◌) e
+  unfolding look_name is_atom if'◌then◌else◌
+  name-atom h e = rw (lt-ltb n atom_count h, if'◌then◌else◌) e
 
   pub name-other : atom_count ≤ n → is_struct t n ≡ false → look_of r ≡ definite (is_rust t n || is_alias t n) → look_of r ≡ look_name s t n
-  unfolding look_name is_atom if◌then◌else◌
-  name-other h e d = rw (le-ltb n atom_count h, if◌then◌else◌, e) d
+  unfolding look_name is_atom if'◌then◌else◌
+  name-other h e d = rw (le-ltb n atom_count h, if'◌then◌else◌, e) d

@@ -8,7 +8,7 @@ use native.Mathlib.Omega.{arith}
 use native.Mathlib.Decide.{dec_lt}
 use borrow.Author.Tests.{lt-ltb, le-ltb}
 use Rattle.rules.specs.Numbers.{Ident, name_count, most_rows}
-use Rattle.rules.specs.Base.{if◌then◌else◌}
+use Rattle.rules.specs.Base.{if'◌then◌else◌}
 use Rattle.rules.specs.View.{rows, is, row_name}
 use Rattle.rules.specs.Trivial.{extern_in, insist}
 use Rattle.rules.specs.Types.{Types, is_cxx, is_extern}
@@ -26,15 +26,15 @@ not-extern t n e = rw e
 
 module _ (s : List ℕ) (t : Types) (r : ℕ) where
   pub want-not : is s Ident r ≡ false → one_of 256 ≡ insist s (is_extern t) r
-  unfolding one_of insist if◌then◌else◌
+  unfolding one_of insist if'◌then◌else◌
   want-not e = rw e
 
   pub want-out : is_extern t (row_name s r) ≡ false → one_of 256 ≡ insist s (is_extern t) r
-  unfolding one_of insist if◌then◌else◌
+  unfolding one_of insist if'◌then◌else◌
   want-out e = rw (e, and-false)
 
   pub nothing-wanted : ((n : ℕ) → is_cxx t n ≡ false) → insist s (is_extern t) r ≡ []
-  unfolding insist if◌then◌else◌
+  unfolding insist if'◌then◌else◌
   nothing-wanted h = rw (not-extern t (row_name s r) (h (row_name s r)), and-false)
 
 module _ (s w : List ℕ) (r : ℕ) where
@@ -46,7 +46,7 @@ module _ (s w : List ℕ) (r : ℕ) where
       go (no m) = never (sym (not-extern (tabled s w) n (cxx-out s w n (omega arith))) ∙ e)
 
   pub want-in : is s Ident r ≡ true → is_extern (tabled s w) (row_name s r) ≡ true → one_of (row_name s r) ≡ insist s (is_extern (tabled s w)) r
-  unfolding one_of insist if◌then◌else◌
+  unfolding one_of insist if'◌then◌else◌
   want-in e h = rw (e, h, lt-ltb (row_name s r) name_count (extern-small (row_name s r) h))
 
 -- ## No name in cxx
@@ -62,11 +62,11 @@ module _ (s w : List ℕ) where
 -- ## The rows that have an entry
 
 pub few-below : (s : List ℕ) → rows s < most_rows → rows s ≡ few_rows s
-unfolding if◌then◌else◌
+unfolding if'◌then◌else◌
 few-below s l = rw (lt-ltb (rows s) most_rows l)
 
 pub few-most : (s : List ℕ) → most_rows ≤ rows s → most_rows ≡ few_rows s
-unfolding if◌then◌else◌
+unfolding if'◌then◌else◌
 few-most s l = rw (le-ltb (rows s) most_rows l)
 
 pub few-rows : (s : List ℕ) → few_rows s ≤ most_rows

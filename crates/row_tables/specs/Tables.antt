@@ -3,7 +3,7 @@
 use Rattle.std.specs.Prelude.{ℕ, List, [], ◌∷◌, Bool, not, ◌&&◌, ltb, eqb}
 use Rattle.rules.specs.Numbers.{no_item, name_count, most_rows}
 use Rattle.rules.specs.Numbers.{Ident, RustBox, RustVec, UniquePtr, SharedPtr, WeakPtr, CxxVector, Ref, Ptr, Str, SliceRef, Fn, Void}
-use Rattle.rules.specs.Base.{if◌then◌else◌}
+use Rattle.rules.specs.Base.{if'◌then◌else◌}
 use Rattle.rules.specs.Format.{Accepted}
 use Rattle.rules.specs.View.{rows, is, row_name}
 use Rattle.rules.specs.Types.{Types, is_alias, is_required_trivial, is_extern, struct_of}
@@ -25,28 +25,28 @@ UnsizedRows s t u = Marks s (is_unsized s t) u
 -- `describe` of a row of kind k that is no plain name
 unfoldable pub describe_other : (k : ℕ) → ℕ
 describe_other k =
-    if eqb k RustBox then 9 else
-    if eqb k RustVec then 10 else
-    if eqb k UniquePtr then 11 else
-    if eqb k SharedPtr then 12 else
-    if eqb k WeakPtr then 13 else
-    if eqb k Ref then 14 else
-    if eqb k Ptr then 15 else
-    if eqb k Str then 16 else
-    if eqb k CxxVector then 17 else
-    if eqb k SliceRef then 18 else
-    if eqb k Fn then 19 else
-    if eqb k Void then 20 else 21
+    if' eqb k RustBox then 9 else
+    if' eqb k RustVec then 10 else
+    if' eqb k UniquePtr then 11 else
+    if' eqb k SharedPtr then 12 else
+    if' eqb k WeakPtr then 13 else
+    if' eqb k Ref then 14 else
+    if' eqb k Ptr then 15 else
+    if' eqb k Str then 16 else
+    if' eqb k CxxVector then 17 else
+    if' eqb k SliceRef then 18 else
+    if' eqb k Fn then 19 else
+    if' eqb k Void then 20 else 21
 
 -- ## Leads
 
 -- an item as a byte: what is none of the items 0 to 254 is none
 unfoldable pub item_byte : ℕ → ℕ
-item_byte i = if ltb i no_item then i else no_item
+item_byte i = if' ltb i no_item then i else no_item
 
 -- `plain_lead`, as a byte
 unfoldable pub lead_byte : (s : List ℕ) (t : Types) (r : ℕ) → ℕ
-lead_byte s t r = if is s Ident r then item_byte (struct_of t (row_name s r)) else no_item
+lead_byte s t r = if' is s Ident r then item_byte (struct_of t (row_name s r)) else no_item
 
 -- ## Lifetimes
 
@@ -61,7 +61,7 @@ abbrev pub fn_fault : ℕ
 fn_fault = 255
 
 unfoldable pub fault_of : (pointer unsized : Bool) (branch : ℕ) → ℕ
-fault_of p u d = if p then fn_fault else if u then d else 0
+fault_of p u d = if' p then fn_fault else if' u then d else 0
 
 -- by a test for the unsized rows
 abbrev pub fault_by : (s : List ℕ) (t : Types) (unsized : ℕ → Bool) (r : ℕ) → ℕ
@@ -82,7 +82,7 @@ FaultRows s t u = RowTable s (fault s t) u
 
 -- below 256 the name whose last struct decides, 256 improper, else proper
 unfoldable pub look_of : ℕ → Look
-look_of c = if ltb c name_count then to c else if eqb c name_count then bad else fine
+look_of c = if' ltb c name_count then to c else if' eqb c name_count then bad else fine
 
 abbrev pub look_in : (table : List ℕ) (r : ℕ) → Look
 look_in u r = look_of (read_at u r)
@@ -94,11 +94,11 @@ LookRows s t u = TableOf look_of (rows s) (look_row s t (rows s)) u
 
 -- a name as a list: none from 256 on
 unfoldable pub one_of : ℕ → List ℕ
-one_of x = if ltb x name_count then x ∷ [] else []
+one_of x = if' ltb x name_count then x ∷ [] else []
 
 -- so many rows have an entry: all of an accepted sheet
 abbrev pub few_rows : List ℕ → ℕ
-few_rows s = if ltb (rows s) most_rows then rows s else most_rows
+few_rows s = if' ltb (rows s) most_rows then rows s else most_rows
 
 -- the name to which each row gives a reason
 abbrev pub WantRows : (s : List ℕ) (t : Types) (table : List ℕ) → Type 0

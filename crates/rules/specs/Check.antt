@@ -7,7 +7,7 @@ use Rattle.rules.specs.Numbers.{CxxVector, Ref, Ptr, Str, SliceRef, Array, Fn, V
 use Rattle.rules.specs.Numbers.{static, no_item}
 use Rattle.rules.specs.declared.Place.TheVariants.{R, G, I, F, A, O, D, L}
 use Rattle.rules.specs.declared.Diagnostic.{Diagnostic}
-use Rattle.rules.specs.Base.{if◌then◌else◌, over, any_of}
+use Rattle.rules.specs.Base.{if'◌then◌else◌, over, any_of}
 use Rattle.rules.specs.Diagnostics.{say, tell, when, bit}
 use Rattle.rules.specs.Names.{is_atom, is_reserved}
 use Rattle.rules.specs.View.{flag1, flag2, rows, kind, is, row_name, row_flags, inner, fn_arg_count, fn_arg, shown, item_kind, item_is, item_name}
@@ -42,7 +42,7 @@ module _ (s : List ℕ) (t : Types) where
   is_unsized_within (suc f) r =
       elim (is s Array r) [
         | true ↦ is_unsized_within f (inner s r)
-        | false ↦ if is s Ident r then is_unsized_ident (row_name s r) else is s CxxVector r || is s Fn r || is s Void r
+        | false ↦ if' is s Ident r then is_unsized_ident (row_name s r) else is s CxxVector r || is s Fn r || is s Void r
       ]
 
   -- rows refer to smaller rows, so as many steps as there are rows are enough
@@ -52,29 +52,29 @@ module _ (s : List ℕ) (t : Types) where
   -- the branch of `describe`, in text order
   unfoldable pub describe_ident : (n : ℕ) → ℕ
   describe_ident n =
-      if is_struct t n then 1 else
-      if is_enum t n then 2 else
-      if is_alias t n then 3 else
-      if is_cxx t n then 4 else
-      if is_rust t n then 5 else
-      if eqb n name_cxx_string then 6 else
-      if eqb n name_char then 7 else 8
+      if' is_struct t n then 1 else
+      if' is_enum t n then 2 else
+      if' is_alias t n then 3 else
+      if' is_cxx t n then 4 else
+      if' is_rust t n then 5 else
+      if' eqb n name_cxx_string then 6 else
+      if' eqb n name_char then 7 else 8
 
   unfoldable pub describe : (r : ℕ) → ℕ
   describe r =
-      if is s Ident r then describe_ident (row_name s r) else
-      if is s RustBox r then 9 else
-      if is s RustVec r then 10 else
-      if is s UniquePtr r then 11 else
-      if is s SharedPtr r then 12 else
-      if is s WeakPtr r then 13 else
-      if is s Ref r then 14 else
-      if is s Ptr r then 15 else
-      if is s Str r then 16 else
-      if is s CxxVector r then 17 else
-      if is s SliceRef r then 18 else
-      if is s Fn r then 19 else
-      if is s Void r then 20 else 21
+      if' is s Ident r then describe_ident (row_name s r) else
+      if' is s RustBox r then 9 else
+      if' is s RustVec r then 10 else
+      if' is s UniquePtr r then 11 else
+      if' is s SharedPtr r then 12 else
+      if' is s WeakPtr r then 13 else
+      if' is s Ref r then 14 else
+      if' is s Ptr r then 15 else
+      if' is s Str r then 16 else
+      if' is s CxxVector r then 17 else
+      if' is s SliceRef r then 18 else
+      if' is s Fn r then 19 else
+      if' is s Void r then 20 else 21
 
   -- ## Rows
 
@@ -94,27 +94,27 @@ module _ (s : List ℕ) (t : Types) where
   check_type_rust_vec r =
       let plain = is s Ident (inner s r) in
       let n = row_name s (inner s r) in
-      if plain && is_opaque t n then say 6 (R r) else
-      if plain && not (eqb n name_cxx_string) then [] else
-      if is s Str (inner s r) then [] else
-      if is s RustBox (inner s r) then check_type_box (inner s r) else say 7 (R r)
+      if' plain && is_opaque t n then say 6 (R r) else
+      if' plain && not (eqb n name_cxx_string) then [] else
+      if' is s Str (inner s r) then [] else
+      if' is s RustBox (inner s r) then check_type_box (inner s r) else say 7 (R r)
 
   unfoldable pub check_type_unique_ptr : (r : ℕ) → List Diagnostic
   check_type_unique_ptr r =
       let plain = is s Ident (inner s r) in
       let n = row_name s (inner s r) in
-      if plain && is_rust t n then say 8 (R r) else
-      if plain && (not (is_atom n) || eqb n name_cxx_string) then [] else
-      if is s CxxVector (inner s r) then [] else say 9 (R r)
+      if' plain && is_rust t n then say 8 (R r) else
+      if' plain && (not (is_atom n) || eqb n name_cxx_string) then [] else
+      if' is s CxxVector (inner s r) then [] else say 9 (R r)
 
   -- shared_ptr and weak_ptr have one rule, with messages of their own: for a Rust type, for a C++ vector, for any other target
   unfoldable pub check_counted_ptr : (rust vector other : ℕ) → (r : ℕ) → List Diagnostic
   check_counted_ptr rust vector other r =
       let plain = is s Ident (inner s r) in
       let n = row_name s (inner s r) in
-      if plain && is_rust t n then say rust (R r) else
-      if plain && not (eqb n name_char || eqb n name_rust_string) then [] else
-      if is s CxxVector (inner s r) then say vector (R r) else say other (R r)
+      if' plain && is_rust t n then say rust (R r) else
+      if' plain && not (eqb n name_char || eqb n name_rust_string) then [] else
+      if' is s CxxVector (inner s r) then say vector (R r) else say other (R r)
 
   unfoldable pub check_type_shared_ptr : (r : ℕ) → List Diagnostic
   check_type_shared_ptr r = check_counted_ptr 10 11 12 r
@@ -126,8 +126,8 @@ module _ (s : List ℕ) (t : Types) where
   check_type_cxx_vector r =
       let plain = is s Ident (inner s r) in
       let n = row_name s (inner s r) in
-      if plain && is_rust t n then say 16 (R r) else
-      if plain && not (eqb n name_char || eqb n name_bool || eqb n name_rust_string) then [] else say 17 (R r)
+      if' plain && is_rust t n then say 16 (R r) else
+      if' plain && not (eqb n name_char || eqb n name_bool || eqb n name_rust_string) then [] else say 17 (R r)
 
   -- a mutable reference to this row requires a pin
   unfoldable pub requires_pin : (r : ℕ) → Bool
@@ -201,7 +201,7 @@ module _ (s : List ℕ) (t : Types) where
   unfoldable pub check_struct_field : (i j : ℕ) → List Diagnostic
   check_struct_field i j =
       let r = field s i j in
-      if is s Fn r then say 31 (F i j) else
+      if' is s Fn r then say 31 (F i j) else
       when (is_unsized r) (tell 32 (F i j) (describe r))
 
   unfoldable pub check_api_struct : (i : ℕ) → List Diagnostic
@@ -248,7 +248,7 @@ module _ (s : List ℕ) (t : Types) where
   -- `FindLifetimeMut` at one row, and over a row and all that it shows
   unfoldable pub is_lifetime_mut : (r : ℕ) → Bool
   is_lifetime_mut r =
-      if is s Ref r || is s SliceRef r then flag1 (row_flags s r) else
+      if' is s Ref r || is s SliceRef r then flag1 (row_flags s r) else
       is s Ident r && not (is_atom (row_name s r)) && may_have_lifetimes (row_name s r)
 
   unfoldable pub find_lifetime_mut : (fuel r : ℕ) → Bool
@@ -260,9 +260,9 @@ module _ (s : List ℕ) (t : Types) where
 
   unfoldable pub check_mut_return_restriction : (i : ℕ) → List Diagnostic
   check_mut_return_restriction i =
-      if function_unsafe s i then [] else
-      if not (returns_mut i) then [] else
-      if is_method s i && (receiver_mutable s i || may_have_lifetimes (self_type s i)) then [] else
+      if' function_unsafe s i then [] else
+      if' not (returns_mut i) then [] else
+      if' is_method s i && (receiver_mutable s i || may_have_lifetimes (self_type s i)) then [] else
       when (not (any_of (find_lifetime_mut (rows s)) (args s i))) (say 56 (I i))
 
   -- ### `check_api_fn`
@@ -270,46 +270,46 @@ module _ (s : List ℕ) (t : Types) where
   unfoldable pub check_fn_generics : (i : ℕ) → List Diagnostic
   check_fn_generics i =
       let generic = ltb 0 (lifetime_count s i) in
-      if item_is s CxxFunction i then when (generic && not (function_trusted s i)) (say 39 (I i)) else
+      if' item_is s CxxFunction i then when (generic && not (function_trusted s i)) (say 39 (I i)) else
       when (generic && not (function_unsafe s i)) (say 40 (I i))
 
   unfoldable pub check_fn_receiver : (i : ℕ) → List Diagnostic
   check_fn_receiver i =
       let n = self_type s i in
       let unpinned = receiver_mutable s i && not (receiver_pinned s i) in
-      if eqb n name_self then say 41 (I i) else
-      if is_enum t n then say 42 (I i) else
-      if not (is_struct t n) && not (is_cxx t n) && not (is_rust t n) then say 43 (I i) else
+      if' eqb n name_self then say 41 (I i) else
+      if' is_enum t n then say 42 (I i) else
+      if' not (is_struct t n) && not (is_cxx t n) && not (is_rust t n) then say 43 (I i) else
       when (unpinned && is_opaque t n) (say 44 (I i))
 
   unfoldable pub check_fn_self_type : (i : ℕ) → List Diagnostic
   check_fn_self_type i =
       let n = self_type s i in
-      if is_enum t n then say 45 (I i) else
+      if' is_enum t n then say 45 (I i) else
       when (not (is_struct t n) && not (is_cxx t n) && not (is_rust t n)) (say 46 (I i))
 
   unfoldable pub check_fn_arg : (i j : ℕ) → List Diagnostic
   check_fn_arg i j =
       let r = arg s i j in
-      if is s Fn r then when (item_is s RustFunction i) (say 47 (A i j)) else
-      if is s Ptr r then when (not (function_unsafe s i)) (say 48 (A i j)) else
+      if' is s Fn r then when (item_is s RustFunction i) (say 47 (A i j)) else
+      if' is s Ptr r then when (not (function_unsafe s i)) (say 48 (A i j)) else
       when (is_unsized r) (tell 49 (A i j) (describe r))
 
   unfoldable pub check_fn_return : (i : ℕ) → List Diagnostic
   check_fn_return i =
       let r = return s i in
-      if not (has_return s i) then [] else
-      if is s Fn r then say 50 (O i) else
+      if' not (has_return s i) then [] else
+      if' is s Fn r then say 50 (O i) else
       when (is_unsized r) (tell 51 (O i) (describe r))
 
   unfoldable pub check_api_fn : (i : ℕ) → List Diagnostic
   check_api_fn i =
       check_fn_generics i
       ++ check_lifetimes i
-      ++ (if is_method s i then check_fn_receiver i else if is_free s i then [] else check_fn_self_type i)
+      ++ (if' is_method s i then check_fn_receiver i else if' is_free s i then [] else check_fn_self_type i)
       ++ over (arg_count s i) (check_fn_arg i)
       ++ check_fn_return i
-      ++ (if item_is s CxxFunction i && not (function_unwind s i) then check_mut_return_restriction i else [])
+      ++ (if' item_is s CxxFunction i && not (function_unwind s i) then check_mut_return_restriction i else [])
 
   unfoldable pub check_api_type_alias : (i : ℕ) → List Diagnostic
   check_api_type_alias i =
@@ -319,8 +319,8 @@ module _ (s : List ℕ) (t : Types) where
   unfoldable pub check_impl_self : (i : ℕ) → List Diagnostic
   check_impl_self i =
       let r = impl_row s i in
-      if impl_negative s i then say 53 (I i) else
-      if not (leb RustBox (kind s r) && leb (kind s r) CxxVector) then say 55 (I i) else
+      if' impl_negative s i then say 53 (I i) else
+      if' not (leb RustBox (kind s r) && leb (kind s r) CxxVector) then say 55 (I i) else
       when (is s Ident (inner s r) && is_atom (row_name s (inner s r))) (say 54 (I i))
 
   unfoldable pub check_api_impl : (i : ℕ) → List Diagnostic

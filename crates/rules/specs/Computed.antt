@@ -2,7 +2,7 @@
 use Rattle.std.specs.Prelude.{ℕ, ◌/◌, ◌%◌, List, [], ◌∷◌}
 use Rattle.std.specs.Int.Count.{ones_in}
 use Rattle.rules.specs.declared.Diagnostic.{Diagnostic}
-use Rattle.rules.specs.Base.{if◌then◌else◌, over, some, any_of}
+use Rattle.rules.specs.Base.{if'◌then◌else◌, over, some, any_of}
 use Rattle.rules.specs.Format.{each, pair_at, offset, one, limited, or_none, times, list, with_flags, signature, row_kinds, body_of}
 use Rattle.rules.specs.Format.{row, same_bytes, equal_rows, fresh, row_at, type_head, repr, variants, receivers, receiver, function}
 use Rattle.rules.specs.Format.{item_kinds, item_of, item, item_at, read}
@@ -46,7 +46,7 @@ bytes [] = []
 bytes (p ∷ ps) = p % 256 ∷ p / 256 ∷ bytes ps
 
 unfoldable pub computed : (sheet scratch : List ℕ) → List Diagnostic → Outcome
-unfolding ones_in if◌then◌else◌ over some any_of each pair_at offset one limited or_none times list with_flags signature row_kinds body_of row
+unfolding ones_in if'◌then◌else◌ over some any_of each pair_at offset one limited or_none times list with_flags signature row_kinds body_of row
     same_bytes equal_rows fresh row_at type_head repr variants receivers receiver function item_kinds item_of item item_at read is_atom
     is_reserved bit_of ◌∋◌ add size names_below flag1 flag2 flag4 or_nothing past entry entries kind is row_name row_flags inner fn_return
     fn_args fn_arg_count fn_arg shown item_place item_kind item_is is_type is_enum_item is_function item_name lifetimes_place lifetime_count
@@ -73,6 +73,6 @@ unfolding names_to last_to enters_structs enters_enums enters_cxx enters_rust en
     row_flags inner fn_return fn_args fn_arg_count fn_arg shown item_place item_kind item_is is_type is_enum_item is_function item_name
     lifetimes_place lifetime_count lifetime derives_place derive_count derive rest field_count field fields enum_repr enum_explicit
     enum_variants enum_defaults type_trusted type_bounds function_unsafe function_trusted function_unwind receiver_place form is_free is_method
-    self_type receiver_mutable receiver_pinned return_place return has_return arg_count arg args impl_row impl_negative if◌then◌else◌ over some
+    self_type receiver_mutable receiver_pinned return_place return has_return arg_count arg args impl_row impl_negative if'◌then◌else◌ over some
     any_of pair_at offset
 collected s = collected_to s (items s)

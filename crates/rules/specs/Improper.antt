@@ -2,7 +2,7 @@
 -- Assumes nothing: these are definitions.
 use Rattle.std.specs.Prelude.{Bool, true, false, not, ◌&&◌, ◌||◌, List, ℕ, zero, suc, eqb}
 use Rattle.rules.specs.Numbers.{name_rust_string, Ident, RustBox, RustVec, Ref, Ptr, Str, SliceRef, Array, Fn, Void, no_item, name_count}
-use Rattle.rules.specs.Base.{if◌then◌else◌}
+use Rattle.rules.specs.Base.{if'◌then◌else◌}
 use Rattle.rules.specs.Names.{Words, empty, add, ◌∋◌, is_atom}
 use Rattle.rules.specs.View.{rows, kind, row_name, inner, field_count, field}
 use Rattle.rules.specs.Types.{Types, is_struct, is_rust, is_alias, struct_of}
@@ -27,8 +27,8 @@ module _ (s : List ℕ) (t : Types) where
   -- an atom wins over a struct of its name
   unfoldable pub look_name : ℕ → Look
   look_name n =
-      if is_atom n then definite (eqb n name_rust_string) else
-      if is_struct t n then to n else definite (is_rust t n || is_alias t n)
+      if' is_atom n then definite (eqb n name_rust_string) else
+      if' is_struct t n then to n else definite (is_rust t n || is_alias t n)
 
   -- Ref, Ptr and Array are looked through. Rows refer to smaller rows: above the row, the fuel is of no account
   unfoldable pub look_row : (fuel r : ℕ) → Look
@@ -44,7 +44,7 @@ module _ (s : List ℕ) (t : Types) where
       ]
 
   unfoldable pub looks_fields : ℕ → ℕ
-  looks_fields n = let i = struct_of t n in if eqb i no_item then 0 else field_count s i
+  looks_fields n = let i = struct_of t n in if' eqb i no_item then 0 else field_count s i
 
   unfoldable pub looks_look : ℕ → ℕ → Look
   looks_look n k = look_row (rows s) (field s (struct_of t n) k)

@@ -2,7 +2,7 @@
 -- Assumes nothing: these are definitions.
 use Rattle.std.specs.Prelude.{ℕ, List, ◌&&◌, ltb}
 use Rattle.rules.specs.Numbers.{Ident, Struct, no_item, most_items}
-use Rattle.rules.specs.Base.{if◌then◌else◌}
+use Rattle.rules.specs.Base.{if'◌then◌else◌}
 use Rattle.rules.specs.View.{is, row_name, items, item_is, field_count, field}
 use Rattle.rules.specs.Types.{Types, struct_of}
 use Rattle.rules.specs.Graph.{Graph}
@@ -14,7 +14,7 @@ graph_by s lead = record { struct = λ i. ltb i (items s) && item_is s Struct i;
 
 -- a plain-named row leads to its name's last struct, atoms included
 unfoldable pub plain_lead : List ℕ → Types → (row : ℕ) → ℕ
-plain_lead s t r = if is s Ident r then struct_of t (row_name s r) else no_item
+plain_lead s t r = if' is s Ident r then struct_of t (row_name s r) else no_item
 
 abbrev pub graph_of : List ℕ → Types → Graph
 graph_of s t = graph_by s (plain_lead s t)

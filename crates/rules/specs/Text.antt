@@ -9,7 +9,7 @@ use Rattle.rules.specs.declared.Verdict.TheVariants.{Accepted, Refused}
 use Rattle.rules.specs.declared.Answer.{Answer}
 use Rattle.rules.specs.declared.Place.{Place}
 use Rattle.rules.specs.declared.Diagnostic.{Diagnostic}
-use Rattle.rules.specs.Base.{if◌then◌else◌, over}
+use Rattle.rules.specs.Base.{if'◌then◌else◌, over}
 use Rattle.rules.specs.Names.{Words, empty, ◌∋◌}
 use Rattle.rules.specs.Diagnostics.{letter_of, numbers_of}
 use Rattle.rules.specs.Report.{report}
@@ -49,7 +49,7 @@ tiers_along tiers order = map (λ (i : ℕ). get_or tiers i 0) order
 
 -- the names below n that a set has, rising
 unfoldable pub members_to : (n : ℕ) → Words → List ℕ
-members_to n w = over n (λ k. if w ∋ k then k ∷ [] else [])
+members_to n w = over n (λ k. if' w ∋ k then k ∷ [] else [])
 
 -- a place: its letter and its numbers
 unfoldable pub place_text : Place → List ℕ

@@ -10,7 +10,7 @@ use lib.Count.{count_trailing_zeros}
 use lib.ListN.{get_or}
 use borrow.Author.Tests.{eqb-true, not-false}
 use Rattle.rules.specs.declared.Diagnostic.{Diagnostic}
-use Rattle.rules.specs.Base.{if◌then◌else◌, over}
+use Rattle.rules.specs.Base.{if'◌then◌else◌, over}
 use Rattle.rules.specs.Format.{pair_at}
 use Rattle.rules.specs.View.{rest, field_count, field, entry}
 use Rattle.laws.specs.RowTable.{read_at}
@@ -56,7 +56,7 @@ module _ {s u : List ℕ} {i at n k left : ℕ} (f : FaultsLeft s u i at n k lef
   fault-is j l = rw (← f.place) (sym (read-in u (entry s at j) (f.list.entries j l).row))
 
   no-fault : (j : ℕ) → j < n → unlike_at s u at 0 j ≡ false → field_says s u i j ≡ []
-  unfolding by_fault if◌then◌else◌
+  unfolding by_fault if'◌then◌else◌
   no-fault j l h =
       let none : read_at u (field s i j) ≡ 0 = sym (fault-is j l) ∙ eqb-true _ _ (not-false _ h) in
       rw none refl

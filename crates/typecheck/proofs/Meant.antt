@@ -10,7 +10,7 @@ use borrow.Author.Tests.{eq-eqb}
 use Rattle.rules.specs.Numbers.{RustFunction, Ptr, no_row}
 use Rattle.rules.specs.declared.Place.TheVariants.{F, A, O}
 use Rattle.rules.specs.declared.Diagnostic.{Diagnostic}
-use Rattle.rules.specs.Base.{if◌then◌else◌, over}
+use Rattle.rules.specs.Base.{if'◌then◌else◌, over}
 use Rattle.rules.specs.Diagnostics.{say, tell, when}
 use Rattle.rules.specs.View.{rows, is, item_is, field_count, field, function_unsafe, return, has_return, arg_count, arg}
 use Rattle.rules.specs.Types.{Types}
@@ -63,7 +63,7 @@ module _ (s : List ℕ) (t : Types) (u : List ℕ) (right : FaultRows s t u) (i 
         by (inr b) = b
 
     return-by : (b : Bool) → has_return s i ≡ b → function_return s u i ≡ check_fn_return s t i
-    unfolding function_return check_fn_return if◌then◌else◌
+    unfolding function_return check_fn_return if'◌then◌else◌
     return-by true e = rw (e, fault-read s t right (return s i) (return-below e)) (row-says s t (return s i) (say 50 (O i)) (tell 51 (O i)))
     return-by false e = rw e
 

@@ -4,7 +4,7 @@ use Rattle.std.specs.Prelude.{ℕ, List, [], Bool, not, ◌&&◌, ◌||◌, eqb}
 use Rattle.rules.specs.Numbers.{static, Ptr, CxxFunction, RustFunction}
 use Rattle.rules.specs.declared.Place.TheVariants.{I, F, A, O, L}
 use Rattle.rules.specs.declared.Diagnostic.{Diagnostic}
-use Rattle.rules.specs.Base.{if◌then◌else◌, over}
+use Rattle.rules.specs.Base.{if'◌then◌else◌, over}
 use Rattle.rules.specs.Diagnostics.{say, tell, when}
 use Rattle.rules.specs.View.{is, item_is, item_name, field_count, field}
 use Rattle.rules.specs.View.{function_unsafe, function_unwind, is_method, is_free, self_type, receiver_mutable, return, has_return, arg_count, arg}
@@ -36,7 +36,7 @@ undeclared t n = not (is_struct t n) && not (is_cxx t n) && not (is_rust t n)
 
 -- where there is no fault, nothing; one message for a function pointer, another for what is unsized
 unfoldable pub by_fault : (fault : ℕ) (pointer unsized : List Diagnostic) → List Diagnostic
-by_fault x p u = if eqb x 0 then [] else if eqb x fn_fault then p else u
+by_fault x p u = if' eqb x 0 then [] else if' eqb x fn_fault then p else u
 
 -- field j of struct i, by the fault of its row
 abbrev pub struct_field : (i j fault : ℕ) → List Diagnostic
@@ -53,23 +53,23 @@ module _ (s faults : List ℕ) where
   -- argument j is row r
   unfoldable pub function_arg : Function → (j r : ℕ) → List Diagnostic
   function_arg f j r =
-      if eqb (read_at faults r) fn_fault then when f.rust (say 47 (A f.item j)) else
-      if is s Ptr r then when f.safe (say 48 (A f.item j)) else
-      if eqb (read_at faults r) 0 then [] else tell 49 (A f.item j) (read_at faults r)
+      if' eqb (read_at faults r) fn_fault then when f.rust (say 47 (A f.item j)) else
+      if' is s Ptr r then when f.safe (say 48 (A f.item j)) else
+      if' eqb (read_at faults r) 0 then [] else tell 49 (A f.item j) (read_at faults r)
 
   unfoldable pub function_args : (i : ℕ) → List Diagnostic
   function_args i = over (arg_count s i) (λ j. function_arg (function_of s i) j (arg s i j))
 
   unfoldable pub function_return : (i : ℕ) → List Diagnostic
   function_return i =
-      if not (has_return s i) then [] else
+      if' not (has_return s i) then [] else
       by_fault (read_at faults (return s i)) (say 50 (O i)) (tell 51 (O i) (read_at faults (return s i)))
 
 -- ## Functions
 
 -- the `match` over a function's kind: method, free or associated
 abbrev pub fn_kind : List ℕ → Types → (i : ℕ) → List Diagnostic
-fn_kind s t i = if is_method s i then check_fn_receiver s t i else if is_free s i then [] else check_fn_self_type s t i
+fn_kind s t i = if' is_method s i then check_fn_receiver s t i else if' is_free s i then [] else check_fn_self_type s t i
 
 -- a method whose receiver is mutable, or of a type that may have lifetimes
 abbrev pub receiver_may_lend : List ℕ → Types → (i : ℕ) → Bool
@@ -77,4 +77,4 @@ receiver_may_lend s t i = is_method s i && (receiver_mutable s i || may_have_lif
 
 -- the &mut return, of a function of plain C++
 abbrev pub fn_mut_return : List ℕ → Types → (i : ℕ) → List Diagnostic
-fn_mut_return s t i = if item_is s CxxFunction i && not (function_unwind s i) then check_mut_return_restriction s t i else []
+fn_mut_return s t i = if' item_is s CxxFunction i && not (function_unwind s i) then check_mut_return_restriction s t i else []

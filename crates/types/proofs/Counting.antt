@@ -13,7 +13,7 @@ use lib.ListN.{length}
 use lib.Dec.{ltb, eqb}
 use borrow.Author.Tests.{lt-ltb, le-ltb, eq-eqb, ne_eqb}
 use Rattle.rules.specs.Numbers.{RustBox, RustVec, SliceRef, Struct, no_row, name_count, struct_set, enum_set, cxx_set, required_trivial_set}
-use Rattle.rules.specs.Base.{if◌then◌else◌, over}
+use Rattle.rules.specs.Base.{if'◌then◌else◌, over}
 use Rattle.rules.specs.Count.{count}
 use Rattle.rules.specs.Format.{pair_at}
 use Rattle.rules.specs.Names.{Words}
@@ -92,13 +92,13 @@ module _ (f : ℕ → List ℕ) where
 -- one reason for a name
 pub name-counted : (s w : List ℕ) (n : ℕ) {x y : ℕ} {u : List ℕ} → x ≡ reasons_for (tabled s w) n → y ≡ one_more x → u ≡ entered w required_trivial_set true n y
     → Tallied w (one_of n) u
-unfolding tally one_of if◌then◌else◌ reasons_for tabled
+unfolding tally one_of if'◌then◌else◌ reasons_for tabled
 name-counted s w n {x} {y} {u} had more is = go (dec_lt n name_count)
   where
     next : u ≡ counted w n
     next = is ∙ ap (entered w reasons true n) (more ∙ ap one_more (had ∙ count-is w reasons n))
 
-    go : Dec (n < name_count) → Tallied w (if ltb n name_count then n ∷ [] else []) u
+    go : Dec (n < name_count) → Tallied w (if' ltb n name_count then n ∷ [] else []) u
     go (yes l) = rw (lt-ltb n name_count l) (record { is = next })
     go (no l) =
         rw (le-ltb n name_count (omega arith))
@@ -106,11 +106,11 @@ name-counted s w n {x} {y} {u} had more is = go (dec_lt n name_count)
 
 module _ (s w : List ℕ) (r : ℕ) where
   pub return-none : r ≡ no_row → Tallied w (of_return s w r) w
-  unfolding if◌then◌else◌
+  unfolding if'◌then◌else◌
   return-none e = rw (eq-eqb r no_row e) tally-none
 
   pub return-some : (r ≡ no_row → ⊥) → {u : List ℕ} → Tallied w (of_plain s w r) u → Tallied w (of_return s w r) u
-  unfolding if◌then◌else◌
+  unfolding if'◌then◌else◌
   return-some h p = rw (ne_eqb r no_row h) p
 
   -- a collected row
@@ -120,11 +120,11 @@ module _ (s w : List ℕ) (r : ℕ) where
     holder-is = rw (first, is_kind) at second
 
     pub row-none : b ≡ false → Tallied w (of_row s w r) w
-    unfolding reasons_of_row if◌then◌else◌
+    unfolding reasons_of_row if'◌then◌else◌
     row-none h = rw (sym holder-is ∙ h) tally-none
 
     pub row-some : b ≡ true → {x : ℕ} {u : List ℕ} → x ≡ inner s r → Tallied w (of_plain s w x) u → Tallied w (of_row s w r) u
-    unfolding reasons_of_row if◌then◌else◌
+    unfolding reasons_of_row if'◌then◌else◌
     row-some h e p = rw (sym holder-is ∙ h, ← e) p
 
 -- ## An item
@@ -135,7 +135,7 @@ listed s w at = over (pair_at s at) (λ j. of_plain s w (entry s at j))
 
 module _ (s w : List ℕ) (i : ℕ) {k : ℕ} (is_kind : k ≡ item_kind s i) where
   pub item-fields : k ≡ Struct → {at : ℕ} {u : List ℕ} → at ≡ rest s i → Tallied w (listed s w at) u → Tallied w (of_item s w i) u
-  unfolding reasons_of_item item_is field_count field if◌then◌else◌
+  unfolding reasons_of_item item_is field_count field if'◌then◌else◌
   item-fields h e p = rw (eq-eqb (item_kind s i) Struct (sym is_kind ∙ h), ← e) p
 
   module _ (other : k ≡ Struct → ⊥) {function : Bool} (test : function ≡ function_kind k) where
@@ -147,14 +147,14 @@ module _ (s w : List ℕ) (i : ℕ) {k : ℕ} (is_kind : k ≡ item_kind s i) wh
     is_function_lem = rw is_kind at test
 
     pub item-none : function ≡ false → Tallied w (of_item s w i) w
-    unfolding reasons_of_item item_is if◌then◌else◌
+    unfolding reasons_of_item item_is if'◌then◌else◌
     item-none h = rw (no_struct, sym is_function_lem ∙ h) tally-none
 
     pub item-function : function ≡ true → {at x : ℕ} {u v : List ℕ} → at ≡ return_place s i → x ≡ pair_at s at → Tallied w (listed s w (at + 2)) u
         → Tallied u (of_return s u x) v → Tallied w (of_item s w i) v
-    unfolding reasons_of_item item_is arg_count arg has_return return if◌then◌else◌
+    unfolding reasons_of_item item_is arg_count arg has_return return if'◌then◌else◌
     item-function h {x = x} e q p o =
-        let o' = tally-by s (λ f. if not (eqb x no_row) then insist s f x else []) p o in
+        let o' = tally-by s (λ f. if' not (eqb x no_row) then insist s f x else []) p o in
         rw (no_struct, sym is_function_lem ∙ h, ← e, ← q) (tally-then p o')
 
 -- ## No reasons at all
@@ -164,8 +164,8 @@ unfolding over
 over_nothing zero f h = refl
 over_nothing (suc n) f h = rw (over_nothing n f h, h n)
 
-either-nothing : (b : Bool) (x y : List ℕ) → x ≡ [] → y ≡ [] → (if b then x else y) ≡ []
-unfolding if◌then◌else◌
+either-nothing : (b : Bool) (x y : List ℕ) → x ≡ [] → y ≡ [] → (if' b then x else y) ≡ []
+unfolding if'◌then◌else◌
 either-nothing true x y p q = p
 either-nothing false x y p q = q
 
@@ -195,7 +195,7 @@ tally-long [] w = refl
 tally-long (n ∷ ns) w = tally-long ns (counted w n) ∙ entered-long w reasons n (one_more (entry_at w reasons n)) true
 
 one_more_lem : (x : ℕ) → x < most_reasons → one_more x ≡ x + 1
-unfolding one_more if◌then◌else◌
+unfolding one_more if'◌then◌else◌
 one_more_lem x l = rw (lt-ltb x most_reasons l) refl
 
 -- a count grows by as often as its name stands in the list, where the reasons are few enough

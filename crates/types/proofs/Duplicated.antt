@@ -8,7 +8,7 @@ use native.Mathlib.Omega.{arith}
 use lib.Dec.{ltb, eqb}
 use borrow.Author.Tests.{eq-eqb, ne_eqb}
 use Rattle.rules.specs.Numbers.{Struct, CxxType, struct_set, enum_set, cxx_set}
-use Rattle.rules.specs.Base.{if◌then◌else◌}
+use Rattle.rules.specs.Base.{if'◌then◌else◌}
 use Rattle.rules.specs.Names.{Words, ◌∋◌}
 use Rattle.rules.specs.View.{type_kind, enum_kind, function_kind, item_kind, item_name, item_is, is_enum_item, is_type}
 use Rattle.rules.specs.Collect.{names_to, enters_structs, enters_enums, enters_cxx, duplicate_type, duplicate_function, duplicate}
@@ -23,9 +23,9 @@ use Rattle.types.proofs.Naming.{is-type, is_function_lem, set_is}
 -- the rule, by its tests
 abbrev type_by : (known shared extern structs enums cxx : Bool) → Bool
 type_by known shared extern structs enums cxx =
-    if not known then false else
-    if shared then not cxx || structs || enums else
-    if extern then cxx || (not structs && not enums) else true
+    if' not known then false else
+    if' shared then not cxx || structs || enums else
+    if' extern then cxx || (not structs && not enums) else true
 
 module _ {s w : List ℕ} {i n : ℕ} (h : KnownType s i n w) where
   -- a name asked of a column is one of the items before
@@ -51,7 +51,7 @@ module _ {s w : List ℕ} {i n : ℕ} (h : KnownType s i n w) where
   cxx-in e = in-column cxx_set (omega arith) e
 
   pub type-new : {known : Bool} → known ≡ ltb 0 (entry_at w type_column n) → known ≡ false → false ≡ duplicate_type s i
-  unfolding duplicate_type if◌then◌else◌
+  unfolding duplicate_type if'◌then◌else◌
   type-new a e = rw (sym (known_in a) ∙ e) refl
 
   module _ {known structs enums cxx : Bool} {k : ℕ} {enum shared : Bool} (is_Known : known ≡ ltb 0 (entry_at w type_column n)) (old : known ≡ true)
@@ -66,15 +66,15 @@ module _ {s w : List ℕ} {i n : ℕ} (h : KnownType s i n w) where
     rule = rw (is_shared, is-enum, kind, structs-in in-structs, enums-in in-enums, cxx-in in-cxx, sym (known_in is_Known) ∙ old) refl
 
     pub type-shared : {r : Bool} → shared ≡ true → r ≡ (not cxx || structs || enums) → r ≡ duplicate_type s i
-    unfolding if◌then◌else◌
+    unfolding if'◌then◌else◌
     type-shared e q = q ∙ sym (rw e at rule)
 
     pub type-cxx : {r : Bool} → shared ≡ false → k ≡ CxxType → r ≡ (cxx || (not structs && not enums)) → r ≡ duplicate_type s i
-    unfolding if◌then◌else◌
+    unfolding if'◌then◌else◌
     type-cxx e c q = q ∙ sym (rw (e, eq-eqb k CxxType c) at rule)
 
     pub type-other : shared ≡ false → (k ≡ CxxType → ⊥) → true ≡ duplicate_type s i
-    unfolding if◌then◌else◌
+    unfolding if'◌then◌else◌
     type-other e c = sym (rw (e, ne_eqb k CxxType c) at rule)
 
 -- ## All items
@@ -82,15 +82,15 @@ module _ {s w : List ℕ} {i n : ℕ} (h : KnownType s i n w) where
 module _ {s : List ℕ} {i k n : ℕ} (h : Item s i k n) where
   module _ {type : Bool} (is : type ≡ type_kind k) where
     pub of-type : {r : Bool} → type ≡ true → r ≡ duplicate_type s i → r ≡ duplicate s i
-    unfolding duplicate if◌then◌else◌
+    unfolding duplicate if'◌then◌else◌
     of-type e q = rw (sym (is-type h is) ∙ e) q
 
     pub of_function : {r function : Bool} → type ≡ false → function ≡ function_kind k → function ≡ true → r ≡ duplicate_function s i → r ≡ duplicate s i
-    unfolding duplicate if◌then◌else◌
+    unfolding duplicate if'◌then◌else◌
     of_function e f g q = rw (sym (is-type h is) ∙ e, sym (is_function_lem h f) ∙ g) q
 
     pub of_other : {function : Bool} → type ≡ false → function ≡ function_kind k → function ≡ false → false ≡ duplicate s i
-    unfolding duplicate if◌then◌else◌
+    unfolding duplicate if'◌then◌else◌
     of_other e f g = rw (sym (is-type h is) ∙ e, sym (is_function_lem h f) ∙ g) refl
 
   -- whether the item enters the table of functions

@@ -10,7 +10,7 @@ use lib.Dec.{eqb}
 use lib.ListN.{length, length-replicate}
 use borrow.Author.Tests.{eq-eqb, eqb-true, eqb-false}
 use Rattle.rules.specs.Numbers.{name_self, name_count}
-use Rattle.rules.specs.Base.{if◌then◌else◌, some}
+use Rattle.rules.specs.Base.{if'◌then◌else◌, some}
 use Rattle.rules.specs.Format.{Accepted}
 use Rattle.rules.specs.Names.{Words, add, ◌∋◌}
 use Rattle.rules.specs.View.{items, is_function, item_name, form, is_free, self_type}
@@ -35,9 +35,9 @@ both_true p q = rw (p, q) refl
 -- equal keys are those of the same name and the same self type, or none, where the self type looked for is not Self
 same_key : (a b : Bool) {m n p q : ℕ} → m < name_count → n < name_count → (a ≡ false → p < name_count) → (b ≡ false → q < name_count)
     → (not a && eqb p name_self) ≡ false
-    → (not (not b && eqb q name_self) && eqb (name_count * (if a then name_count else p) + m) (name_count * (if b then name_count else q) + n))
-    ≡ (eqb n m && (if a then b else not b && eqb q p))
-unfolding if◌then◌else◌
+    → (not (not b && eqb q name_self) && eqb (name_count * (if' a then name_count else p) + m) (name_count * (if' b then name_count else q) + n))
+    ≡ (eqb n m && (if' a then b else not b && eqb q p))
+unfolding if'◌then◌else◌
 same_key true true {m} {n} l k f g h =
     test-same (eqb (name_count * name_count + m) (name_count * name_count + n)) (eqb n m && true)
     (λ e. let z = eqb-true (name_count * name_count + m) (name_count * name_count + n) e in both_true (eq-eqb n m (omega arith)) refl)
@@ -82,10 +82,10 @@ module _ (s : List ℕ) where
     self-small i l h e = ((item-of s acc i l).as_function h).self-named (eqb-false (form s i) 0 e)
 
     pub key-small : (i : ℕ) → i < items s → is_function s i ≡ true → key_of s i < key_count
-    unfolding key_of if◌then◌else◌
+    unfolding key_of if'◌then◌else◌
     key-small i l h = by (is_free s i) (self-small i l h)
       where
-        by : (b : Bool) → (b ≡ false → self_type s i < name_count) → name_count * (if b then name_count else self_type s i) + item_name s i < key_count
+        by : (b : Bool) → (b ≡ false → self_type s i < name_count) → name_count * (if' b then name_count else self_type s i) + item_name s i < key_count
         by true e = let n = ((item-of s acc i l).as_function h).named in omega arith
         by false e = let n = ((item-of s acc i l).as_function h).named in let m = e refl in omega arith
 
@@ -115,14 +115,14 @@ module _ (s : List ℕ) where
 
     pub function-known : (i : ℕ) {n : ℕ} {w : Words} → i < items s → is_function s i ≡ true → of_self s i ≡ false → w ≡ keys_to s i → n ≡ key_of s i
         → (w ∋ n) ≡ duplicate_function s i
-    unfolding duplicate_function of_self if◌then◌else◌
+    unfolding duplicate_function of_self if'◌then◌else◌
     function-known i l h o e q =
         rw (e, q, o)
         (keys-have i (omega arith) (key_of s i) ∙ some_same i (λ j. enters_keys s j && eqb (key_of s i) (key_of s j)) (same_function s i)
         (λ j m. pair_same i j l (omega arith) h o))
 
   pub function-self : (i : ℕ) → of_self s i ≡ true → false ≡ duplicate_function s i
-  unfolding duplicate_function of_self if◌then◌else◌
+  unfolding duplicate_function of_self if'◌then◌else◌
   function-self i o = rw o refl
 
   -- ## One item more

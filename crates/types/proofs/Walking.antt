@@ -10,7 +10,7 @@ use lib.ListN.{length}
 use borrow.Author.Tests.{eq-eqb, ne_eqb}
 use mathlib.Core.Logic.{inl, inr}
 use Rattle.rules.specs.Numbers.{Fn, most_rows, no_row}
-use Rattle.rules.specs.Base.{if◌then◌else◌, over}
+use Rattle.rules.specs.Base.{if'◌then◌else◌, over}
 use Rattle.rules.specs.Format.{pair_at, offset, Accepted}
 use Rattle.rules.specs.View.{rows, kind, inner, fn_args, fn_arg_count, fn_arg, shown, entry, entries, or_nothing}
 use Rattle.laws.specs.Skip.{skip_visit}
@@ -72,11 +72,11 @@ module _ {s b : List ℕ} {n : ℕ} where
   -- ## A row or none, and a list of rows
 
   pub none : {x bound : ℕ} → Held s b n → x ≡ no_row → Walks s b b n bound (or_nothing x) n
-  unfolding or_nothing if◌then◌else◌
+  unfolding or_nothing if'◌then◌else◌
   none {x} h e = rw (eq-eqb x no_row e) (still h.held)
 
   pub one : {d : List ℕ} {x m bound : ℕ} → (x ≡ no_row → ⊥) → x < bound → Walks s b d n (suc x) (x ∷ []) m → Walks s b d n bound (or_nothing x) m
-  unfolding or_nothing if◌then◌else◌
+  unfolding or_nothing if'◌then◌else◌
   one {x = x} h l w = rw (ne_eqb x no_row h) (wider w (omega arith))
 
 -- the first j rows of a list

@@ -12,7 +12,7 @@ use lib.Seq.{ext_get_or}
 use lib.Dec.{ltb}
 use borrow.Author.Tests.{lt-ltb}
 use Rattle.rules.specs.Numbers.{name_count, struct_set, enum_set, cxx_set, rust_set, alias_set, untrusted_set, required_trivial_set}
-use Rattle.rules.specs.Base.{if◌then◌else◌, over}
+use Rattle.rules.specs.Base.{if'◌then◌else◌, over}
 use Rattle.rules.specs.Format.{pair_at, Accepted}
 use Rattle.rules.specs.View.{items}
 use Rattle.rules.specs.Collect.{names_to, last_to}
@@ -70,7 +70,7 @@ counts-are w t k e h = ext_get_or 0 (counts_in w k) t (size ∙ sym e) (λ n l. 
 
 -- no item enters the column of the reasons
 none_yet : {s : List ℕ} {i : ℕ} {w : List ℕ} → Named s i w → (n : ℕ) → entry_at w required_trivial_set n ≡ 0
-unfolding if◌then◌else◌
+unfolding if'◌then◌else◌
 none_yet {s} {i} {w} h n = go (dec_lt n name_count)
   where
     none : {r : ℕ} → Last s (λ _. false) i n r → entry_of r ≡ 0

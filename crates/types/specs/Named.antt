@@ -2,7 +2,7 @@
 -- Assumes nothing: these are definitions.
 use Rattle.std.specs.Prelude.{ℕ, zero, suc, ◌+◌, ◌*◌, ◌<◌, ◌≡◌, Bool, true, false, not, ◌&&◌, List, [], ◌∷◌, length, get_or, replicate, eqb}
 use Rattle.rules.specs.Numbers.{name_self, name_count}
-use Rattle.rules.specs.Base.{if◌then◌else◌}
+use Rattle.rules.specs.Base.{if'◌then◌else◌}
 use Rattle.rules.specs.Format.{Accepted}
 use Rattle.rules.specs.Names.{Words, add}
 use Rattle.rules.specs.View.{items, item_kind, is_type, is_function, item_name, is_free, self_type}
@@ -49,7 +49,7 @@ module _ (s : List ℕ) where
 
   -- a bit for each self type and name; the number of names stands for no self type
   unfoldable pub key_of : ℕ → ℕ
-  key_of i = name_count * (if is_free s i then name_count else self_type s i) + item_name s i
+  key_of i = name_count * (if' is_free s i then name_count else self_type s i) + item_name s i
 
   unfoldable pub enters_keys : ℕ → Bool
   enters_keys i = is_function s i && not (of_self i)

@@ -2,7 +2,7 @@
 -- Assumes nothing: these are definitions.
 use Rattle.std.specs.Prelude.{ℕ, ◌+◌, ◌*◌, ◌<◌, ◌≡◌, true, not, List, [], ◌∷◌, ◌++◌, ltb, eqb}
 use Rattle.rules.specs.Numbers.{no_row, required_trivial_set}
-use Rattle.rules.specs.Base.{if◌then◌else◌, over}
+use Rattle.rules.specs.Base.{if'◌then◌else◌, over}
 use Rattle.rules.specs.Format.{pair_at, Accepted}
 use Rattle.rules.specs.View.{entry, items}
 use Rattle.rules.specs.Trivial.{insist, reasons_of_item, reasons_of_row}
@@ -16,7 +16,7 @@ abbrev pub most_reasons : ℕ
 most_reasons = 65535
 
 unfoldable pub one_more : ℕ → ℕ
-one_more x = if ltb x most_reasons then x + 1 else x
+one_more x = if' ltb x most_reasons then x + 1 else x
 
 -- a table with one reason more for each name of a list
 unfoldable pub tally : List ℕ → List ℕ → List ℕ
@@ -58,7 +58,7 @@ module _ (s w : List ℕ) where
 
   -- of a return row, or of none
   abbrev pub of_return : (r : ℕ) → List ℕ
-  of_return r = if not (eqb r no_row) then of_plain r else []
+  of_return r = if' not (eqb r no_row) then of_plain r else []
 
   abbrev pub of_item : (i : ℕ) → List ℕ
   of_item i = reasons_of_item s (is_extern (tabled s w)) i

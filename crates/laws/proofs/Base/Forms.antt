@@ -5,7 +5,7 @@ use mathlib.Core.Bool.{Bool, true, false}
 use mathlib.Core.List.{List, [], ◌∷◌, ◌++◌}
 use native.Mathlib.Omega.{arith}
 use Rattle.rules.specs.declared.Diagnostic.{Diagnostic}
-use Rattle.rules.specs.Base.{if◌then◌else◌, over}
+use Rattle.rules.specs.Base.{if'◌then◌else◌, over}
 use Rattle.rules.specs.Diagnostics.{when}
 use Rattle.rules.specs.Rule3.{Some, first, later}
 
@@ -19,8 +19,8 @@ module _ {X : Type 0} {P : X → Type 0} where
   none & q = q
   more p ps & q = more p (ps & q)
 
-  pub branch : (b : Bool) {x y : List X} → All P x → All P y → All P (if b then x else y)
-  unfolding if◌then◌else◌
+  pub branch : (b : Bool) {x y : List X} → All P x → All P y → All P (if' b then x else y)
+  unfolding if'◌then◌else◌
   branch true p q = p
   branch false p q = q
 

@@ -11,7 +11,7 @@ use lib.Dec.{T, eqb, ltb}
 use borrow.Author.Tests.{lt-ltb, ltb-true}
 use lib.ListN.{get_or, set, replicate}
 use Rattle.rules.specs.Numbers.{no_item, most_items}
-use Rattle.rules.specs.Base.{if◌then◌else◌, over}
+use Rattle.rules.specs.Base.{if'◌then◌else◌, over}
 use Rattle.rules.specs.Format.{Accepted}
 use Rattle.rules.specs.View.{rows, items, field}
 use Rattle.rules.specs.Graph.{Graph}
@@ -111,14 +111,14 @@ module _ (G : Graph) (n : ℕ) (good : Good G n) (to : (i k : ℕ) → ℕ) (sam
 
 module _ (s d : List ℕ) where
   pub lead-at : (r : ℕ) → r < rows s → lead_by s d r ≡ get_or d r 0
-  unfolding lead_by if◌then◌else◌
+  unfolding lead_by if'◌then◌else◌
   lead-at r l = rw (lt-ltb r (rows s) l)
 
   pub lead-to-structs : LeadTable s d → ToStructs s (lead_by s d)
-  unfolding lead_by if◌then◌else◌
+  unfolding lead_by if'◌then◌else◌
   lead-to-structs t r = go (ltb r (rows s)) refl
     where
-      go : (b : Bool) → ltb r (rows s) ≡ b → (if b then get_or d r 0 else no_item) ≢ no_item → IsStruct s (if b then get_or d r 0 else no_item)
+      go : (b : Bool) → ltb r (rows s) ≡ b → (if' b then get_or d r 0 else no_item) ≢ no_item → IsStruct s (if' b then get_or d r 0 else no_item)
       go true e ne = t.to_structs r (ltb-true r (rows s) e) ne
       go false e ne = absurd (ne refl)
 

@@ -7,7 +7,7 @@ use mathlib.Core.Bool.{Bool, true, false, ◌&&◌, ◌||◌}
 use mathlib.Core.List.{List, [], ◌∷◌, ◌++◌}
 use lib.Dec.{T, eqb, eqb→eq, eqb_refl}
 use Rattle.rules.specs.declared.Diagnostic.{Diagnostic}
-use Rattle.rules.specs.Base.{if◌then◌else◌, over}
+use Rattle.rules.specs.Base.{if'◌then◌else◌, over}
 use Rattle.rules.specs.Diagnostics.{when}
 use Rattle.rules.specs.Rule3.{Some, first, later}
 use Rattle.laws.specs.Tells.{has, tells}
@@ -17,17 +17,17 @@ use Rattle.laws.proofs.Base.Tests.{or_left, or_right, or_cases, or-false, or_ass
 
 -- ## Branches
 
-pub if-test : (a : Bool) → (if a then true else false) ≡ a
-unfolding if◌then◌else◌
+pub if-test : (a : Bool) → (if' a then true else false) ≡ a
+unfolding if'◌then◌else◌
 if-test true = refl
 if-test false = refl
 
-pub if_no : {A : Type 0} (x y : A) → (if false then x else y) ≡ y
-unfolding if◌then◌else◌
+pub if_no : {A : Type 0} (x y : A) → (if' false then x else y) ≡ y
+unfolding if'◌then◌else◌
 if_no x y = refl
 
-pub if-same : {A : Type 0} (a : Bool) (x : A) → (if a then x else x) ≡ x
-unfolding if◌then◌else◌
+pub if-same : {A : Type 0} (a : Bool) (x : A) → (if' a then x else x) ≡ x
+unfolding if'◌then◌else◌
 if-same true x = refl
 if-same false x = refl
 
@@ -52,8 +52,8 @@ module _ (p : Diagnostic → Bool) where
   has-when true d = or-false (p d)
   has-when false d = refl
 
-  pub has-if : (b : Bool) (x y : List Diagnostic) → has p (if b then x else y) ≡ (if b then has p x else has p y)
-  unfolding if◌then◌else◌
+  pub has-if : (b : Bool) (x y : List Diagnostic) → has p (if' b then x else y) ≡ (if' b then has p x else has p y)
+  unfolding if'◌then◌else◌
   has-if true x y = refl
   has-if false x y = refl
 

@@ -8,7 +8,7 @@ use mathlib.Core.List.{List, [], ◌∷◌}
 use lib.Dec.{eqb}
 use borrow.Author.Tests.{eqb-true}
 use Rattle.rules.specs.Numbers.{Ident, Array}
-use Rattle.rules.specs.Base.{if◌then◌else◌, some, any_of}
+use Rattle.rules.specs.Base.{if'◌then◌else◌, some, any_of}
 use Rattle.rules.specs.Format.{Accepted}
 use Rattle.rules.specs.View.{rows, kind, is, row_name, inner, shown}
 use Rattle.rules.specs.Types.{Types}
@@ -35,15 +35,15 @@ module _ (s : List ℕ) (acc : Accepted s) (t : Types) where
   -- ## `is_unsized`
 
   unsized-step : (b : Bool) (f r : ℕ) → is s Array r ≡ b → is_unsized_within s t (suc f) r ≡ unsized_step s t (is_unsized_within s t f) r
-  unfolding is_unsized_within unsized_step unsized_leaf if◌then◌else◌
+  unfolding is_unsized_within unsized_step unsized_leaf if'◌then◌else◌
   unsized-step true f r e = rw (e, is_unsized_within)
   unsized-step false f r e = rw (e, is_unsized_within)
 
   unsized-smaller : (b : Bool) (r : ℕ) → is s Array r ≡ b → (b ≡ true → inner s r < r) → (p q : ℕ → Bool) → ((y : ℕ) → y < r → p y ≡ q y)
       → unsized_step s t p r ≡ unsized_step s t q r
-  unfolding unsized_step if◌then◌else◌
-  unsized-smaller true r e l p q h = rw (e, if◌then◌else◌) (h (inner s r) (l refl))
-  unsized-smaller false r e l p q h = rw (e, if◌then◌else◌)
+  unfolding unsized_step if'◌then◌else◌
+  unsized-smaller true r e l p q h = rw (e, if'◌then◌else◌) (h (inner s r) (l refl))
+  unsized-smaller false r e l p q h = rw (e, if'◌then◌else◌)
 
   array-falls : (r : ℕ) → r < rows s → is s Array r ≡ true → inner s r < r
   unfolding is
@@ -62,7 +62,7 @@ module _ (s : List ℕ) (acc : Accepted s) (t : Types) where
 
   -- a plain name
   pub unsized-named : (r : ℕ) → r < rows s → kind s r ≡ Ident → is_unsized s t r ≡ is_unsized_ident s t (row_name s r)
-  unfolding unsized_step unsized_leaf is if◌then◌else◌
+  unfolding unsized_step unsized_leaf is if'◌then◌else◌
   unsized-named r l e = unsized-is r l ∙ rw e
 
   -- ## `determine_improper_ctype`
@@ -76,17 +76,17 @@ module _ (s : List ℕ) (acc : Accepted s) (t : Types) where
       of k m e = implied (is_through k) (has_inner k) (all_pass 14 (λ k. not (is_through k) || has_inner k) refl k m) e
 
   look-step : (a b : Bool) (f r : ℕ) → eqb (kind s r) Ident ≡ a → is_through (kind s r) ≡ b → look_row s t (suc f) r ≡ look_step s t (look_row s t f) r
-  unfolding look_row look_step if◌then◌else◌
+  unfolding look_row look_step if'◌then◌else◌
   look-step true b f r d e = rw (d, look_row)
   look-step false true f r d e = rw (d, e, look_row)
   look-step false false f r d e = rw (d, e, look_row)
 
   look-smaller : (a b : Bool) (r : ℕ) → eqb (kind s r) Ident ≡ a → is_through (kind s r) ≡ b → (b ≡ true → inner s r < r)
       → (p q : ℕ → Look) → ((y : ℕ) → y < r → p y ≡ q y) → look_step s t p r ≡ look_step s t q r
-  unfolding look_step if◌then◌else◌
-  look-smaller true b r d e l p q h = rw (d, if◌then◌else◌)
-  look-smaller false true r d e l p q h = rw (d, e, if◌then◌else◌) (h (inner s r) (l refl))
-  look-smaller false false r d e l p q h = rw (d, e, if◌then◌else◌)
+  unfolding look_step if'◌then◌else◌
+  look-smaller true b r d e l p q h = rw (d, if'◌then◌else◌)
+  look-smaller false true r d e l p q h = rw (d, e, if'◌then◌else◌) (h (inner s r) (l refl))
+  look-smaller false false r d e l p q h = rw (d, e, if'◌then◌else◌)
 
   pub look_up : (r : ℕ) → r < rows s → Upward (look_row s t) (look_step s t) r
   look_up r l =
@@ -105,7 +105,7 @@ module _ (s : List ℕ) (acc : Accepted s) (t : Types) where
   -- ## `FindLifetimeMut`
 
   mut-step : (b : Bool) (f r : ℕ) → is_lifetime_mut s t r ≡ b → find_lifetime_mut s t (suc f) r ≡ mut_step s t (find_lifetime_mut s t f) r
-  unfolding find_lifetime_mut mut_step if◌then◌else◌
+  unfolding find_lifetime_mut mut_step if'◌then◌else◌
   mut-step true f r e = rw (e, find_lifetime_mut)
   mut-step false f r e = rw (e, find_lifetime_mut)
 
@@ -114,7 +114,7 @@ module _ (s : List ℕ) (acc : Accepted s) (t : Types) where
   mut-up r l =
       record {
         step = λ f. mut-step (is_lifetime_mut s t r) f r refl;
-        smaller = λ p q h. ap (λ (b : Bool). if is_lifetime_mut s t r then true else b) (any_same p q (shown s r) (λ x i. h x (shown-falls s acc r l x i)));
+        smaller = λ p q h. ap (λ (b : Bool). if' is_lifetime_mut s t r then true else b) (any_same p q (shown s r) (λ x i. h x (shown-falls s acc r l x i)));
       }
 
   pub mut-fuel : (f g r : ℕ) → r < f → r < g → r < rows s → find_lifetime_mut s t f r ≡ find_lifetime_mut s t g r

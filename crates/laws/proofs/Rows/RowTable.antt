@@ -14,7 +14,7 @@ use lib.Seq.{get_or-set_same, get_or-set_other}
 use lib.Dec.{ltb}
 use borrow.Author.Tests.{lt-ltb, le-ltb}
 use Rattle.rules.specs.Numbers.{most_rows}
-use Rattle.rules.specs.Base.{if◌then◌else◌}
+use Rattle.rules.specs.Base.{if'◌then◌else◌}
 use Rattle.rules.specs.Diagnostics.{bit}
 use Rattle.laws.specs.RowTable.{TableOf, read_at, is_mark}
 use Rattle.laws.proofs.Base.Counts.{Eq?, same, other, eq?}
@@ -49,22 +49,22 @@ module _ {A : Type 0} where
 
 module _ (u : List ℕ) (k : ℕ) where
   pub read-in : k < most_rows → read_at u k ≡ get_or u k 0
-  unfolding read_at if◌then◌else◌
+  unfolding read_at if'◌then◌else◌
   read-in l = rw (lt-ltb k most_rows l)
 
   pub read_out : most_rows ≤ k → read_at u k ≡ 0
-  unfolding read_at if◌then◌else◌
+  unfolding read_at if'◌then◌else◌
   read_out l = rw (le-ltb k most_rows l)
 
   -- after a store
   module _ (v : ℕ) where
     read_same : k < most_rows → k < length u → read_at (set u k v) k ≡ v
-    unfolding read_at if◌then◌else◌
+    unfolding read_at if'◌then◌else◌
     read_same l m = rw (lt-ltb k most_rows l) (get_or-set_same u k v 0 m)
 
     read-other : (y : ℕ) → y ≢ k → read_at (set u k v) y ≡ read_at u y
     unfolding read_at
-    read-other y h = ap (λ (x : ℕ). if ltb y most_rows then x else 0) (get_or-set_other u k y v 0 h)
+    read-other y h = ap (λ (x : ℕ). if' ltb y most_rows then x else 0) (get_or-set_other u k y v 0 h)
 
 -- ## Tables
 

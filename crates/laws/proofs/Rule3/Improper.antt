@@ -9,7 +9,7 @@ use native.Mathlib.Omega.{arith}
 use native.Mathlib.Decide.{dec_lt}
 use lib.Dec.{T, eqb, ltb, ltb→lt, lt→ltb, eqb→eq, eqb_refl}
 use Rattle.rules.specs.Numbers.{name_rust_string, Ident, RustBox, RustVec, Ref, Ptr, Str, SliceRef, Array, Fn, Void, Struct, RustType, TypeAlias, no_item}
-use Rattle.rules.specs.Base.{if◌then◌else◌}
+use Rattle.rules.specs.Base.{if'◌then◌else◌}
 use Rattle.rules.specs.Names.{◌∋◌, is_atom}
 use Rattle.rules.specs.Format.{Accepted}
 use Rattle.rules.specs.View.{rows, kind, row_name, inner}
@@ -124,11 +124,11 @@ module _ (s : List ℕ) (acc : Accepted s) where
       go (no m) = omega arith
 
   name-bad : (q n : ℕ) → row_name s q ≡ n → kind s q ≡ Ident → look_name s t n ≡ bad → Bad s q
-  unfolding look_name if◌then◌else◌
+  unfolding look_name if'◌then◌else◌
   name-bad q n en k h = go (is_atom n) (is_struct t n) refl refl h
     where
       go : (a b : Bool) → is_atom n ≡ a → is_struct t n ≡ b
-          → (if a then definite (eqb n name_rust_string) else if b then to n else definite (is_rust t n || is_alias t n)) ≡ bad → Bad s q
+          → (if' a then definite (eqb n name_rust_string) else if' b then to n else definite (is_rust t n || is_alias t n)) ≡ bad → Bad s q
       go true b ea eb e = rust_string k (en ∙ eqb→eq n name_rust_string (definite-bad (eqb n name_rust_string) e))
       go false true ea eb e = absurd (not-to e)
       go false false ea eb e =
@@ -140,11 +140,11 @@ module _ (s : List ℕ) (acc : Accepted s) where
           of (inr u) = inr (subst (λ (x : ℕ). Borne s TypeAlias x) (sym en) ((aliases-are s acc n).0 u))
 
   name-to : (n j : ℕ) → look_name s t n ≡ to j → (16 ≤ n) × (n ≡ j) × T (is_struct t n)
-  unfolding look_name if◌then◌else◌
+  unfolding look_name if'◌then◌else◌
   name-to n j h = go (is_atom n) (is_struct t n) refl refl h
     where
       go : (a b : Bool) → is_atom n ≡ a → is_struct t n ≡ b
-          → (if a then definite (eqb n name_rust_string) else if b then to n else definite (is_rust t n || is_alias t n)) ≡ to j
+          → (if' a then definite (eqb n name_rust_string) else if' b then to n else definite (is_rust t n || is_alias t n)) ≡ to j
           → (16 ≤ n) × (n ≡ j) × T (is_struct t n)
       go true b ea eb e = absurd (definite-to (eqb n name_rust_string) e)
       go false true ea eb e = (no-atom n ea, (cc), subst T (sym eb) tt)
@@ -193,11 +193,11 @@ module _ (s : List ℕ) (acc : Accepted s) where
       go false e p = absurd (definite-to (bads (kind s q)) p)
 
   struct-here : (q : ℕ) → kind s q ≡ Ident → 16 ≤ row_name s q → T (is_struct t (row_name s q)) → look_here q ≡ to (row_name s q)
-  unfolding look_name if◌then◌else◌
+  unfolding look_name if'◌then◌else◌
   struct-here q k l u = ap (λ x. looked x (row_name s q)) k ∙ rw (atom-no (row_name s q) l, is_true (is_struct t (row_name s q)) u)
 
   bad-here : (q : ℕ) → Bad s q → look_here q ≡ bad
-  unfolding look_name if◌then◌else◌ is_atom
+  unfolding look_name if'◌then◌else◌ is_atom
   bad-here q (rust_string k n) = ap (λ x. looked x (row_name s q)) k ∙ ap (look_name s t) n
   bad-here q (box k) = ap (λ x. looked x (row_name s q)) k
   bad-here q (vec k) = ap (λ x. looked x (row_name s q)) k
@@ -220,15 +220,15 @@ module _ (s : List ℕ) (acc : Accepted s) where
   -- ## The names
 
   fields-some : (n k : ℕ) → k < looks_fields s t n → struct_of t n ≢ 255
-  unfolding looks_fields if◌then◌else◌
+  unfolding looks_fields if'◌then◌else◌
   fields-some n k l e = at (eqb (struct_of t n) no_item) refl l
     where
-      at : (b : Bool) → eqb (struct_of t n) no_item ≡ b → k < (if b then 0 else field_count s (struct_of t n)) → ⊥
+      at : (b : Bool) → eqb (struct_of t n) no_item ≡ b → k < (if' b then 0 else field_count s (struct_of t n)) → ⊥
       at true _ m = omega arith
       at false d _ = subst T d (subst (λ (x : ℕ). T (eqb x 255)) (sym e) (eqb_refl 255))
 
   fields-are : (n : ℕ) → struct_of t n ≢ 255 → looks_fields s t n ≡ field_count s (struct_of t n)
-  unfolding looks_fields if◌then◌else◌
+  unfolding looks_fields if'◌then◌else◌
   fields-are n ne = rw (no_eq (struct_of t n) 255 ne)
 
   -- field k of name n's last struct, looked through to q

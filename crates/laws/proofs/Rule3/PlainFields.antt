@@ -7,7 +7,7 @@ use mathlib.Core.Bool.{Bool, true, false}
 use mathlib.Core.List.{List}
 use borrow.Author.Tests.{eqb-true, eq-eqb}
 use Rattle.rules.specs.Numbers.{Ident, no_item, most_items}
-use Rattle.rules.specs.Base.{if◌then◌else◌}
+use Rattle.rules.specs.Base.{if'◌then◌else◌}
 use Rattle.rules.specs.Format.{Accepted}
 use Rattle.rules.specs.View.{is, kind, row_name}
 use Rattle.rules.specs.Types.{types_of, struct_of}
@@ -21,17 +21,17 @@ use Rattle.laws.proofs.Graph.SameEdges.{lead-table}
 
 module _ (s : List ℕ) where
   plain-so : (r k : ℕ) → plain_lead s (types_of s) r ≡ k → k ≢ no_item → PlainLeads s r k
-  unfolding plain_lead is if◌then◌else◌
+  unfolding plain_lead is if'◌then◌else◌
   plain-so r k e ne = go (is s Ident r) refl e
     where
-      go : (b : Bool) → is s Ident r ≡ b → (if b then struct_of (types_of s) (row_name s r) else no_item) ≡ k → PlainLeads s r k
+      go : (b : Bool) → is s Ident r ≡ b → (if' b then struct_of (types_of s) (row_name s r) else no_item) ≡ k → PlainLeads s r k
       go true p q = record { plain = eqb-true (kind s r) Ident p; last = of-last s (row_name s r) k q ne }
       go false p q = absurd (ne (sym q))
 
   module _ (acc : Accepted s) where
     plain-is : (r k : ℕ) → PlainLeads s r k → plain_lead s (types_of s) r ≡ k
-    unfolding plain_lead is if◌then◌else◌
-    plain-is r k h = rw (eq-eqb (kind s r) Ident h.plain, if◌then◌else◌) (last_of s acc (row_name s r) k h.last)
+    unfolding plain_lead is if'◌then◌else◌
+    plain-is r k h = rw (eq-eqb (kind s r) Ident h.plain, if'◌then◌else◌) (last_of s acc (row_name s r) k h.last)
 
     pub plain-leads : LeadsAs s (plain_lead s (types_of s)) (PlainLeads s)
     plain-leads = record { so = plain-so; is = λ r k _ h. plain-is r k h; struct = λ r k h. h.last.struct }

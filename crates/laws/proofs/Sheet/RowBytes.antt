@@ -12,7 +12,7 @@ use lib.Dec.{eqb}
 use lib.ListN.{length, get_or, take, drop, length-drop}
 use lib.Seq.{get_or-take, get_or-drop, length-take-le}
 use borrow.Author.Tests.{eq-eqb, lt-ltb, le-ltb}
-use Rattle.rules.specs.Base.{if◌then◌else◌}
+use Rattle.rules.specs.Base.{if'◌then◌else◌}
 use Rattle.rules.specs.Format.{pair_at, offset, limited, body_of, row, same_bytes, equal_rows, fresh, item_of, item, Accepted}
 use Rattle.rules.specs.View.{rows, items}
 use Rattle.laws.specs.RowTrees.{begins, row_bytes}
@@ -93,7 +93,7 @@ module _ (s : List ℕ) (acc : Accepted s) where
       go (the_end e) = rw e (omega (arith, (bodies_of s acc).last))
 
   begins-is : (b : ℕ) → b ≤ rows s → begins s b ≡ start b
-  unfolding begins if◌then◌else◌
+  unfolding begins if'◌then◌else◌
   begins-is b l = go (next? b l)
     where
       go : Next? b → begins s b ≡ start b

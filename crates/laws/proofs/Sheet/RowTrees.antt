@@ -12,7 +12,7 @@ use lib.ListN.{length, get_or}
 use lib.Seq.{ext_get_or}
 use borrow.Author.Tests.{eqb-true, le-leb, lt-leb, not-true}
 use Rattle.rules.specs.Numbers.{Ident, Ref, Ptr, SliceRef, Array, Fn, no_row}
-use Rattle.rules.specs.Base.{if◌then◌else◌, some}
+use Rattle.rules.specs.Base.{if'◌then◌else◌, some}
 use Rattle.rules.specs.Diagnostics.{bit}
 use Rattle.rules.specs.Format.{pair_at, offset, Accepted}
 use Rattle.rules.specs.View.{rows, kind, row_name, row_flags, inner, fn_return, fn_args, fn_arg_count, shown, or_nothing, entry, entries}
@@ -37,24 +37,24 @@ is_flagged k = eqb k Ref || eqb k Ptr || eqb k SliceRef || eqb k Array
 module _ (s : List ℕ) (r : ℕ) where
   abbrev numbers_as : (is_name is_fn has_flags : Bool) → List ℕ
   numbers_as a b c =
-      if a then row_name s r ∷ [] else
-      if b then row_flags s r ∷ bit (eqb (fn_return s r) no_row) ∷ [] else
-      if c then row_flags s r ∷ [] else []
+      if' a then row_name s r ∷ [] else
+      if' b then row_flags s r ∷ bit (eqb (fn_return s r) no_row) ∷ [] else
+      if' c then row_flags s r ∷ [] else []
 
   numbers_as_lem : (k : ℕ) → kind s r ≡ k → numbers s r ≡ numbers_as (eqb k Ident) (eqb k Fn) (is_flagged k)
   unfolding numbers
   numbers_as_lem k e = ap (λ x. numbers_as (eqb x Ident) (eqb x Fn) (is_flagged x)) e
 
   name-number : kind s r ≡ Ident → numbers s r ≡ row_name s r ∷ []
-  unfolding if◌then◌else◌
+  unfolding if'◌then◌else◌
   name-number e = numbers_as_lem Ident e
 
   fn-numbers : kind s r ≡ Fn → numbers s r ≡ row_flags s r ∷ bit (eqb (fn_return s r) no_row) ∷ []
-  unfolding if◌then◌else◌
+  unfolding if'◌then◌else◌
   fn-numbers e = numbers_as_lem Fn e
 
   flags-number : eqb (kind s r) Ident ≡ false → eqb (kind s r) Fn ≡ false → is_flagged (kind s r) ≡ true → numbers s r ≡ row_flags s r ∷ []
-  unfolding if◌then◌else◌
+  unfolding if'◌then◌else◌
   flags-number a b c = numbers_as_lem (kind s r) refl ∙ rw (a, b, c)
 
 -- one computed test for each: a kind with a row inside is no leaf and no Fn; above 6 it has flags, or a length
@@ -153,12 +153,12 @@ module _ (s : List ℕ) (small : (i : ℕ) → get_or s i 0 < 256) where
           cc
 
       near-inner : kind s r ≤ 6 → pair_at s (a + 2) ≡ pair_at s (b + 2)
-      unfolding inner if◌then◌else◌
+      unfolding inner if'◌then◌else◌
       near-inner g = let x = inners in rw (← kinds, le-leb (kind s r) 6 g) at x
 
       module _ (g : 6 < kind s r) where
         far-inner : pair_at s (a + 4) ≡ pair_at s (b + 4)
-        unfolding inner if◌then◌else◌
+        unfolding inner if'◌then◌else◌
         far-inner = let x = inners in rw (← kinds, lt-leb (kind s r) 6 g) at x
 
         far-flags : pair_at s (a + 2) ≡ pair_at s (b + 2)
@@ -185,13 +185,13 @@ module _ (s : List ℕ) (small : (i : ℕ) → get_or s i 0 < 256) where
 
       -- both return nothing, or both return a row, which stands first
       fn-shown : (fn_return s r ≡ fn_return s q) × (fn_args s r ≡ fn_args s q)
-      unfolding or_nothing if◌then◌else◌
+      unfolding or_nothing if'◌then◌else◌
       fn-shown =
           go (eqb (fn_return s r) no_row) (eqb (fn_return s q) no_row) refl refl (let x = fn-nums in cc) (sym (shown-fn s r e) ∙ shows ∙ shown-fn s q also)
         where
           go : (x y : Bool) → eqb (fn_return s r) no_row ≡ x → eqb (fn_return s q) no_row ≡ y
               → bit (eqb (fn_return s r) no_row) ≡ bit (eqb (fn_return s q) no_row)
-              → (if x then [] else fn_return s r ∷ []) ++ fn_args s r ≡ (if y then [] else fn_return s q ∷ []) ++ fn_args s q
+              → (if' x then [] else fn_return s r ∷ []) ++ fn_args s r ≡ (if' y then [] else fn_return s q ∷ []) ++ fn_args s q
               → (fn_return s r ≡ fn_return s q) × (fn_args s r ≡ fn_args s q)
           go true true c d _ h = (eqb-true (fn_return s r) no_row c ∙ sym (eqb-true (fn_return s q) no_row d), h)
           go false false c d _ h = ((cc), (cc))

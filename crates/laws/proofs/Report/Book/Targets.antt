@@ -6,7 +6,7 @@ use mathlib.Core.Bool.{Bool, true, false, not, ◌&&◌, ◌||◌}
 use mathlib.Core.List.{List}
 use borrow.Author.Tests.{eqb-true}
 use Rattle.rules.specs.Numbers.{Ident, RustBox, RustVec, UniquePtr, SharedPtr, WeakPtr, CxxVector}
-use Rattle.rules.specs.Base.{if◌then◌else◌}
+use Rattle.rules.specs.Base.{if'◌then◌else◌}
 use Rattle.rules.specs.Names.{◌∋◌}
 use Rattle.rules.specs.View.{kind, is, row_name, inner}
 use Rattle.rules.specs.Trivial.{extern_in}
@@ -150,7 +150,7 @@ module _ (s : List ℕ) (t : Types) (r : ℕ) where
 
 -- a Vec of a Box has the Box's message too
 vec-of-box : (s : List ℕ) (t : Types) (r : ℕ) → kind s (inner s r) ≡ RustBox → check_type_rust_vec s t r ≡ check_type_box s t (inner s r)
-unfolding check_type_rust_vec is if◌then◌else◌
+unfolding check_type_rust_vec is if'◌then◌else◌
 vec-of-box s t r e = rw e refl
 
 vec-no-box : (s : List ℕ) (t : Types) (r : ℕ) → is s RustBox (inner s r) ≡ false → tells 4 (check_type_rust_vec s t r) ≡ false

@@ -12,7 +12,7 @@ use lib.Dec.{T, eqb, ltb, eqb→eq, eqb_refl, ltb→lt, lt→ltb}
 use Rattle.rules.specs.Numbers.{Struct, Enum, CxxType, RustType, TypeAlias}
 use Rattle.rules.specs.declared.Place.TheVariants.{I}
 use Rattle.rules.specs.declared.Diagnostic.{Diagnostic}
-use Rattle.rules.specs.Base.{if◌then◌else◌, over}
+use Rattle.rules.specs.Base.{if'◌then◌else◌, over}
 use Rattle.rules.specs.Diagnostics.{say, when}
 use Rattle.rules.specs.Names.{◌∋◌}
 use Rattle.rules.specs.Format.{Accepted}
@@ -70,16 +70,16 @@ module _ (s : List ℕ) (acc : Accepted s) where
 
   -- a RustType whose name was declared
   rust-twice : (i : ℕ) → item_kind s i ≡ RustType → names_to s (is_type s) i ∋ item_name s i ≡ true → duplicate s i ≡ true
-  unfolding duplicate duplicate_type item_is is_enum_item if◌then◌else◌
+  unfolding duplicate duplicate_type item_is is_enum_item if'◌then◌else◌
   rust-twice i k e = rw (is_true (is_type s i) (kind-type s RustType tt i k), e, k) refl
 
   -- a type whose name was declared, and by no struct, enum, CxxType or alias
   first-twice : (i : ℕ) → T (is_type s i) → names_to s (is_type s) i ∋ item_name s i ≡ true → names_to s (enters_structs s) i ∋ item_name s i ≡ false
       → names_to s (enters_enums s) i ∋ item_name s i ≡ false → names_to s (enters_cxx s) i ∋ item_name s i ≡ false → duplicate s i ≡ true
-  unfolding duplicate duplicate_type if◌then◌else◌
+  unfolding duplicate duplicate_type if'◌then◌else◌
   first-twice i t e a b c = rw (is_true (is_type s i) t, e, a, b, c) (all (item_is s Struct i || is_enum_item s i) (item_is s CxxType i))
     where
-      all : (x y : Bool) → (if x then not false || false || false else if y then false || (not false && not false) else true) ≡ true
+      all : (x y : Bool) → (if' x then not false || false || false else if' y then false || (not false && not false) else true) ≡ true
       all true y = refl
       all false true = refl
       all false false = refl

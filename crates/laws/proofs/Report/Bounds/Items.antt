@@ -11,7 +11,7 @@ use lib.ListN.{length, get_or, length-append}
 use Rattle.rules.specs.Numbers.{Struct, CxxFunction}
 use Rattle.rules.specs.declared.Place.TheVariants.{I, D}
 use Rattle.rules.specs.declared.Diagnostic.{Diagnostic}
-use Rattle.rules.specs.Base.{if◌then◌else◌, over}
+use Rattle.rules.specs.Base.{if'◌then◌else◌, over}
 use Rattle.rules.specs.Diagnostics.{say, when, bit}
 use Rattle.rules.specs.Format.{Accepted}
 use Rattle.rules.specs.View.{rows, items, item_kind, item_is, item_place, lifetime_count, derive_count, field_count, function_unwind, is_method}
@@ -87,8 +87,8 @@ module _ (s : List ℕ) (t : Types) (i : ℕ) where
   function-few : length (check_api_fn s t i) ≤ 4 + lifetime_count s i + arg_count s i
   unfolding check_api_fn
   function-few =
-      let self : List Diagnostic = if is_method s i then check_fn_receiver s t i else if is_free s i then [] else check_fn_self_type s t i in
-      let mutable : List Diagnostic = if item_is s CxxFunction i && not (function_unwind s i) then check_mut_return_restriction s t i else [] in
+      let self : List Diagnostic = if' is_method s i then check_fn_receiver s t i else if' is_free s i then [] else check_fn_self_type s t i in
+      let mutable : List Diagnostic = if' item_is s CxxFunction i && not (function_unwind s i) then check_mut_return_restriction s t i else [] in
       let a : length self ≤ 1 = search (if-few, receiver-few, self-few, none≤1) in
       let b : length mutable ≤ 1 = search (if-few, mut-few, none≤1) in
       let c : length (over (arg_count s i) (check_fn_arg s t i)) ≤ arg_count s i * 1 = over-few (check_fn_arg s t i) (arg_count s i) 1 (λ j _. arg-few j) in

@@ -7,7 +7,7 @@ use mathlib.Core.List.{List, [], ◌∷◌, ◌++◌}
 use native.Mathlib.Omega.{arith}
 use lib.ListN.{length, get_or, length-append}
 use Rattle.rules.specs.declared.Diagnostic.{Diagnostic}
-use Rattle.rules.specs.Base.{if◌then◌else◌, over}
+use Rattle.rules.specs.Base.{if'◌then◌else◌, over}
 use Rattle.rules.specs.Diagnostics.{when, bit}
 use Rattle.laws.proofs.Base.Sums.{sum_to, sum_first, sum-le, sum-const, weight}
 
@@ -32,8 +32,8 @@ none≤1 = omega arith
 pub one≤1 : 1 ≤ 1
 one≤1 = omega arith
 
-pub if-few : {A : Type 0} (n : ℕ) (b : Bool) (x y : List A) → length x ≤ n → length y ≤ n → length (if b then x else y) ≤ n
-unfolding if◌then◌else◌
+pub if-few : {A : Type 0} (n : ℕ) (b : Bool) (x y : List A) → length x ≤ n → length y ≤ n → length (if' b then x else y) ≤ n
+unfolding if'◌then◌else◌
 if-few n true x y h g = h
 if-few n false x y h g = g
 

@@ -10,7 +10,7 @@ use lib.Dec.{eqb}
 use lib.ListN.{length, get_or, length-append, get_or-eq_default}
 use borrow.Author.Tests.{eqb-true}
 use Rattle.rules.specs.Numbers.{Struct}
-use Rattle.rules.specs.Base.{if◌then◌else◌, over}
+use Rattle.rules.specs.Base.{if'◌then◌else◌, over}
 use Rattle.rules.specs.Count.{count}
 use Rattle.rules.specs.Format.{Accepted}
 use Rattle.rules.specs.View.{items, item_kind, item_is, is_function, field_count, field, arg_count, arg, has_return, return}
@@ -53,11 +53,11 @@ module _ (s : List ℕ) (extern : ℕ → Bool) where
   unfolding reasons_of_row
   row-few r = search (if-few, insist-few, none≤1)
 
-  return-few : (i : ℕ) → length (if has_return s i then insist s extern (return s i) else []) ≤ 1
+  return-few : (i : ℕ) → length (if' has_return s i then insist s extern (return s i) else []) ≤ 1
   return-few i = search (if-few, insist-few, none≤1)
 
   item-few : Accepted s → (i : ℕ) → i < items s → length (reasons_of_item s extern i) ≤ 64
-  unfolding reasons_of_item item_is if◌then◌else◌
+  unfolding reasons_of_item item_is if'◌then◌else◌
   item-few acc i l = go (eqb (item_kind s i) Struct) (is_function s i) refl refl
     where
       item : ItemOf s i
@@ -70,9 +70,9 @@ module _ (s : List ℕ) (extern : ℕ → Bool) where
       args = over (arg_count s i) (λ j. insist s extern (arg s i j))
 
       returned : List ℕ
-      returned = if has_return s i then insist s extern (return s i) else []
+      returned = if' has_return s i then insist s extern (return s i) else []
 
-      go : (a b : Bool) → eqb (item_kind s i) Struct ≡ a → is_function s i ≡ b → length (if a then fields else if b then args ++ returned else []) ≤ 64
+      go : (a b : Bool) → eqb (item_kind s i) Struct ≡ a → is_function s i ≡ b → length (if' a then fields else if' b then args ++ returned else []) ≤ 64
       go true b e _ =
           let few : length fields ≤ field_count s i * 1 =
           over-few (λ j. insist s extern (field s i j)) (field_count s i) 1 (λ j _. insist-few (field s i j)) in

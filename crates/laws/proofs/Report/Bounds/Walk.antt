@@ -14,7 +14,7 @@ use Rattle.rules.specs.Graph.{Graph}
 use Rattle.rules.specs.Walk.{Out, still, blame, blamed, seen, finished, field_out, fields_out, visit_out, item_out, items_out, sort_out}
 use Rattle.laws.proofs.Base.Sums.{sum_to, sum_same, sum-add, sum-cut}
 use Rattle.rules.specs.View.{is, row_name, items, item_kind, item_is, field_count, field}
-use Rattle.rules.specs.Base.{if◌then◌else◌}
+use Rattle.rules.specs.Base.{if'◌then◌else◌}
 use Rattle.rules.specs.Collect.{enters_structs}
 use Rattle.rules.specs.Types.{Types, types_of, is_struct, struct_of}
 use Rattle.rules.specs.Order.{graph_of, walk_of, plain_lead}
@@ -132,13 +132,13 @@ module _ (s : List ℕ) (acc : Accepted s) where
           absurd (fails h ((structs-are s acc n).1 (record { item = struct_of t n; below = w.struct.below; is_kind = w.struct.is_struct; bears = w.bears })))
 
   leads-named : (i k : ℕ) → bit (not (eqb (plain_lead s t (field s i k)) no_item)) ≡ bit (struct_named s i k)
-  unfolding plain_lead struct_named if◌then◌else◌
+  unfolding plain_lead struct_named if'◌then◌else◌
   leads-named i k = go (is s Ident (field s i k))
     where
       n : ℕ
       n = row_name s (field s i k)
 
-      go : (b : Bool) → bit (not (eqb (if b then struct_of t n else no_item) no_item)) ≡ bit (b && is_struct t n)
+      go : (b : Bool) → bit (not (eqb (if' b then struct_of t n else no_item) no_item)) ≡ bit (b && is_struct t n)
       go true = ap bit (struct_known n)
       go false = refl
 

@@ -12,7 +12,7 @@ use Rattle.rules.specs.Numbers.{Struct, Enum, Impl}
 use Rattle.rules.specs.declared.Place.{Place}
 use Rattle.rules.specs.declared.Place.TheVariants.{R, G, I, F, A, O, D, L}
 use Rattle.rules.specs.declared.Diagnostic.{Diagnostic}
-use Rattle.rules.specs.Base.{if◌then◌else◌}
+use Rattle.rules.specs.Base.{if'◌then◌else◌}
 use Rattle.rules.specs.Diagnostics.{tell}
 use Rattle.rules.specs.View.{row_name, item_kind, is_type, is_function, item_name, lifetime_count, derive_count, field_count, enum_defaults}
 use Rattle.rules.specs.View.{arg_count}
@@ -43,14 +43,14 @@ module _ (s : List ℕ) (t : Types) (i : ℕ) where
     pub place : ItemPlace d.place
     pub detail : ItemDetail d.detail
 
-if-le : (n : ℕ) (b : Bool) {x y : ℕ} → x ≤ n → y ≤ n → (if b then x else y) ≤ n
-unfolding if◌then◌else◌
+if-le : (n : ℕ) (b : Bool) {x y : ℕ} → x ≤ n → y ≤ n → (if' b then x else y) ≤ n
+unfolding if'◌then◌else◌
 if-le n true p q = p
 if-le n false p q = q
 
 module _ (s : List ℕ) (t : Types) where
   -- the branches of `describe` are 1 to 21
-  or_else : (b : Bool) (x : ℕ) {y : ℕ} → T (leb x 21) → y ≤ 21 → (if b then x else y) ≤ 21
+  or_else : (b : Bool) (x : ℕ) {y : ℕ} → T (leb x 21) → y ≤ 21 → (if' b then x else y) ≤ 21
   or_else b x t q = if-le 21 b (leb→le x 21 t) q
 
   describe-ident-few : (n : ℕ) → K.describe_ident s t n ≤ 21

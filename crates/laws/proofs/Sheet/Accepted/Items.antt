@@ -12,7 +12,7 @@ use borrow.Author.Tests.{eqb-true}
 use Rattle.rules.specs.Numbers.{Ident, Struct, Enum, CxxType, RustType, CxxFunction, RustFunction, TypeAlias, Impl}
 use Rattle.rules.specs.declared.Step.{Step}
 use Rattle.rules.specs.declared.Step.TheVariants.{Next}
-use Rattle.rules.specs.Base.{if◌then◌else◌}
+use Rattle.rules.specs.Base.{if'◌then◌else◌}
 use Rattle.rules.specs.Format.{pair_at, offset, limited, function, item_kinds, item_of, item, Accepted}
 use Rattle.rules.specs.View.{type_kind, function_kind, rows, kind, items, item_place, item_kind}
 use Rattle.rules.specs.View.{item_is, is_type, is_function, item_name, past, lifetimes_place, lifetime_count, lifetime, derives_place, derive_count}
@@ -174,7 +174,7 @@ module _ (s : List ℕ) (acc : Accepted s) (i : ℕ) (l : i < items s) where
   head-is (suc (suc (suc (suc (suc (suc (suc (suc zero)))))))) l t e = never t
   head-is (suc (suc (suc (suc (suc (suc (suc (suc (suc k))))))))) l t e = absurd (omega arith)
 
-  lifetimes-place : (b : Bool) → is_type s i ≡ b → lifetimes_place s i ≡ (if b then item_place s i + 4 else item_place s i + 6)
+  lifetimes-place : (b : Bool) → is_type s i ≡ b → lifetimes_place s i ≡ (if' b then item_place s i + 4 else item_place s i + 6)
   unfolding lifetimes_place
   lifetimes-place b e = rw e
 
@@ -183,7 +183,7 @@ module _ (s : List ℕ) (acc : Accepted s) (i : ℕ) (l : i < items s) where
   lifetimes-are at e a = record { few = rw e a.few; small = rw e a.each }
 
   type-is : is_type s i ≡ true → TypeOf s i
-  unfolding item_name derive_count derive derives_place if◌then◌else◌ from
+  unfolding item_name derive_count derive derives_place if'◌then◌else◌ from
   type-is t =
       let z : item_place s i + 2 + 2 ≡ item_place s i + 4 = omega arith in
       let h = head-is (item_kind s i) item-steps.0 (sym (kind-type s i (item_kind s i) refl) ∙ t) refl in
@@ -227,7 +227,7 @@ module _ (s : List ℕ) (acc : Accepted s) (i : ℕ) (l : i < items s) where
 
   -- the lifetimes of what is no type stand behind a pair more
   lifetimes-far : (k : ℕ) → item_kind s i ≡ k → type_kind k ≡ false → lifetimes_place s i ≡ item_place s i + 6
-  unfolding if◌then◌else◌
+  unfolding if'◌then◌else◌
   lifetimes-far k e n = lifetimes-place false (kind-type s i k e ∙ n)
 
   function-at : (k : ℕ) → type_kind k ≡ false → item_kind s i ≡ k → FunctionAt s (rows s) from ending → FunctionOf s i
@@ -273,7 +273,7 @@ module _ (s : List ℕ) (acc : Accepted s) (i : ℕ) (l : i < items s) where
 
   -- the place behind the derives, in numbers
   rest-is : is_type s i ≡ true → rest s i ≡ item_place s i + 8 + 2 * lifetime_count s i + 2 * derive_count s i
-  unfolding rest derives_place past lifetime_count derive_count if◌then◌else◌
+  unfolding rest derives_place past lifetime_count derive_count if'◌then◌else◌
   rest-is t = rw (lifetimes-place true t) (omega arith)
 
   struct-size : item_kind s i ≡ Struct → ending ≡ item_place s i + 10 + 2 * lifetime_count s i + 2 * derive_count s i + 2 * field_count s i

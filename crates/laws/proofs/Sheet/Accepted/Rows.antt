@@ -10,7 +10,7 @@ use borrow.Author.Tests.{lt-leb, le-leb}
 use Rattle.rules.specs.Numbers.{Ident, Ref, Ptr, SliceRef, Fn}
 use Rattle.rules.specs.declared.Step.{Step}
 use Rattle.rules.specs.declared.Step.TheVariants.{Next}
-use Rattle.rules.specs.Base.{if◌then◌else◌}
+use Rattle.rules.specs.Base.{if'◌then◌else◌}
 use Rattle.rules.specs.Format.{end, pair_at, offset, limited, with_flags, signature, row_kinds, body_of, row, Accepted}
 use Rattle.rules.specs.View.{rows, kind, row_name, row_flags, inner, fn_return, fn_arg_count, fn_arg, past}
 use Rattle.laws.specs.Kinds.{RowOrNone}
@@ -116,7 +116,7 @@ module _ (s : List ℕ) (acc : Accepted s) (r : ℕ) (l : r < rows s) where
 
   -- the row inside stands next to the kind
   inner-near : (k : ℕ) → body_of s r k ≡ limited s 7 r → k ≤ 6 → kind s r ≡ k → inner s r < r
-  unfolding inner if◌then◌else◌ from
+  unfolding inner if'◌then◌else◌ from
   inner-near k b g e = rw (le-leb (kind s r) 6 (rw e g), inner) (by_kind k (limited-reads s 7 r) b e).0
 
   -- or behind flags or a length
@@ -125,7 +125,7 @@ module _ (s : List ℕ) (acc : Accepted s) (r : ℕ) (l : r < rows s) where
   flags-are k n b e = (by_kind k (flagged-reads s r n) b e).0.0
 
   inner-far : (k n : ℕ) → body_of s r k ≡ with_flags s n r → 6 < k → kind s r ≡ k → inner s r < r
-  unfolding inner if◌then◌else◌ from
+  unfolding inner if'◌then◌else◌ from
   inner-far k n b g e =
       let z : offset s r + 2 + 2 ≡ offset s r + 4 = omega arith in
       rw (lt-leb (kind s r) 6 (rw e g), inner) (rw z at (by_kind k (flagged-reads s r n) b e).0.1)

@@ -8,7 +8,7 @@ use mathlib.Core.List.{List, [], ◌∷◌, ◌++◌}
 use lib.Dec.{eqb}
 use borrow.Author.Tests.{eqb-true}
 use Rattle.rules.specs.Numbers.{Fn, Struct, Enum, CxxFunction, RustFunction, Impl, no_row}
-use Rattle.rules.specs.Base.{if◌then◌else◌, some}
+use Rattle.rules.specs.Base.{if'◌then◌else◌, some}
 use Rattle.rules.specs.Format.{pair_at, offset, Accepted}
 use Rattle.rules.specs.View.{enum_kind, function_kind, rows, kind, inner, fn_return, fn_args, fn_arg_count, fn_arg, shown, or_nothing, entry, entries}
 use Rattle.rules.specs.View.{items, item_kind, item_is, is_enum_item, is_function, rest, fields, field_count, field, enum_repr, args, arg_count}
@@ -30,10 +30,10 @@ module _ (s : List ℕ) (limit : ℕ) where
   entries_below at h x i = let r = in-over (entry s at) (pair_at s at) x i in rw r.2 (h r.0 r.1)
 
   or-nothing-below : (v : ℕ) → RowOrNone limit v → (x : ℕ) → In x (or_nothing v) → x < limit
-  unfolding or_nothing if◌then◌else◌
+  unfolding or_nothing if'◌then◌else◌
   or-nothing-below v h x i = go (eqb v no_row) refl h i
     where
-      go : (b : Bool) → eqb v no_row ≡ b → RowOrNone limit v → In x (if b then [] else v ∷ []) → x < limit
+      go : (b : Bool) → eqb v no_row ≡ b → RowOrNone limit v → In x (if' b then [] else v ∷ []) → x < limit
       go true e h i = in-none x i
       go false e (inl q) i = never (sym (ap (λ n. eqb n no_row) (sym q) ∙ e))
       go false e (inr l) i = rw (in_one x v i) l
@@ -42,7 +42,7 @@ module _ (s : List ℕ) (limit : ℕ) where
 
 module _ (s : List ℕ) (r : ℕ) where
   abbrev shown_as : (is_leaf is_fn : Bool) → List ℕ
-  shown_as b c = if b then [] else if c then or_nothing (fn_return s r) ++ fn_args s r else inner s r ∷ []
+  shown_as b c = if' b then [] else if' c then or_nothing (fn_return s r) ++ fn_args s r else inner s r ∷ []
 
   shown-as : (k : ℕ) → kind s r ≡ k → shown s r ≡ shown_as (leaf k) (eqb k Fn)
   unfolding shown
@@ -50,15 +50,15 @@ module _ (s : List ℕ) (r : ℕ) where
 
   -- what a row shows, by its kind
   pub shown-leaf : (k : ℕ) → leaf k ≡ true → kind s r ≡ k → shown s r ≡ []
-  unfolding if◌then◌else◌
+  unfolding if'◌then◌else◌
   shown-leaf k h e = shown-as k e ∙ ap (λ (b : Bool). shown_as b (eqb k Fn)) h
 
   pub shown-fn : kind s r ≡ Fn → shown s r ≡ or_nothing (fn_return s r) ++ fn_args s r
-  unfolding if◌then◌else◌
+  unfolding if'◌then◌else◌
   shown-fn e = shown-as Fn e
 
   pub shown-inner : (k : ℕ) → leaf k ≡ false → eqb k Fn ≡ false → kind s r ≡ k → shown s r ≡ inner s r ∷ []
-  unfolding if◌then◌else◌
+  unfolding if'◌then◌else◌
   shown-inner k h g e = shown-as k e ∙ ap (λ (b : Bool). shown_as b (eqb k Fn)) h ∙ ap (shown_as false) g
 
 -- one computed test: a kind that is no leaf and no Fn has a row inside
@@ -97,10 +97,10 @@ module _ (s : List ℕ) (acc : Accepted s) where
 module _ (s : List ℕ) (i : ℕ) where
   abbrev shown_by_as : (is_struct is_enum is_fn is_impl : Bool) → List ℕ
   shown_by_as a b c d =
-      if a then fields s i else
-      if b then enum_repr s i ∷ [] else
-      if c then args s i ++ or_nothing (return s i) else
-      if d then impl_row s i ∷ [] else []
+      if' a then fields s i else
+      if' b then enum_repr s i ∷ [] else
+      if' c then args s i ++ or_nothing (return s i) else
+      if' d then impl_row s i ∷ [] else []
 
   shown_by-as : (k : ℕ) → item_kind s i ≡ k → shown_by s i ≡ shown_by_as (eqb k Struct) (enum_kind k) (function_kind k) (eqb k Impl)
   unfolding shown_by item_is is_enum_item is_function
@@ -108,25 +108,25 @@ module _ (s : List ℕ) (i : ℕ) where
 
   -- what an item shows, by its kind
   pub shown_by-struct : item_kind s i ≡ Struct → shown_by s i ≡ fields s i
-  unfolding if◌then◌else◌
+  unfolding if'◌then◌else◌
   shown_by-struct e = shown_by-as Struct e
 
   pub shown_by-enum : item_kind s i ≡ Enum → shown_by s i ≡ enum_repr s i ∷ []
-  unfolding if◌then◌else◌
+  unfolding if'◌then◌else◌
   shown_by-enum e = shown_by-as Enum e
 
   pub shown_by-function : (item_kind s i ≡ CxxFunction) ⊎ (item_kind s i ≡ RustFunction) → shown_by s i ≡ args s i ++ or_nothing (return s i)
-  unfolding if◌then◌else◌
+  unfolding if'◌then◌else◌
   shown_by-function (inl e) = shown_by-as CxxFunction e
   shown_by-function (inr e) = shown_by-as RustFunction e
 
   pub shown_by-impl : item_kind s i ≡ Impl → shown_by s i ≡ impl_row s i ∷ []
-  unfolding if◌then◌else◌
+  unfolding if'◌then◌else◌
   shown_by-impl e = shown_by-as Impl e
 
   -- Include, CxxType, RustType and TypeAlias
   pub shown_by-other : (k : ℕ) → (eqb k Struct || enum_kind k || function_kind k || eqb k Impl) ≡ false → item_kind s i ≡ k → shown_by s i ≡ []
-  unfolding if◌then◌else◌
+  unfolding if'◌then◌else◌
   shown_by-other k h e = shown_by-as k e ∙ of (eqb k Struct) (enum_kind k) (function_kind k) (eqb k Impl) h
     where
       of : (a b c d : Bool) → (a || b || c || d) ≡ false → shown_by_as a b c d ≡ []
@@ -138,7 +138,7 @@ module _ (s : List ℕ) (i : ℕ) where
 
 module _ (s : List ℕ) (acc : Accepted s) where
   pub shown_by-below : (i : ℕ) → i < items s → (x : ℕ) → In x (shown_by s i) → x < rows s
-  unfolding shown_by if◌then◌else◌ item_is is_enum_item fields field_count field args arg_count arg
+  unfolding shown_by if'◌then◌else◌ item_is is_enum_item fields field_count field args arg_count arg
   shown_by-below i l x j = go (item_is s Struct i) (item_is s Enum i) (is_function s i) (item_is s Impl i) refl refl refl refl j
     where
       item : ItemOf s i

@@ -7,7 +7,7 @@ use mathlib.Core.Logic.{◌⊎◌, inl, inr}
 use mathlib.Core.Bool.{Bool, true, false}
 use mathlib.Core.List.{List, [], ◌∷◌, ◌++◌, foldl}
 use native.Mathlib.Omega.{arith}
-use Rattle.rules.specs.Base.{if◌then◌else◌}
+use Rattle.rules.specs.Base.{if'◌then◌else◌}
 use Rattle.rules.specs.Count.{count}
 use Rattle.rules.specs.View.{rows, shown}
 use Rattle.rules.specs.Collect.{enter, visit}
@@ -19,16 +19,16 @@ use Rattle.laws.proofs.Base.Members.{in-none, in_head, in_tail, in-cons, in_one,
 -- ## Entering a row
 
 module _ (s : List ℕ) where
-  enter-as : (all : List ℕ) (r : ℕ) (b : Bool) → seen all r ≡ b → enter s all r ≡ (if b then all else all ++ r ∷ [])
+  enter-as : (all : List ℕ) (r : ℕ) (b : Bool) → seen all r ≡ b → enter s all r ≡ (if' b then all else all ++ r ∷ [])
   unfolding enter seen
-  enter-as all r b e = ap (λ (c : Bool). if c then all else all ++ r ∷ []) e
+  enter-as all r b e = ap (λ (c : Bool). if' c then all else all ++ r ∷ []) e
 
   pub enter-old : (all : List ℕ) (r : ℕ) → seen all r ≡ true → enter s all r ≡ all
-  unfolding if◌then◌else◌
+  unfolding if'◌then◌else◌
   enter-old all r e = enter-as all r true e
 
   pub enter-new : (all : List ℕ) (r : ℕ) → seen all r ≡ false → enter s all r ≡ all ++ r ∷ []
-  unfolding if◌then◌else◌
+  unfolding if'◌then◌else◌
   enter-new all r e = enter-as all r false e
 
   pub enter-kept : (all : List ℕ) (r x : ℕ) → In x all → In x (enter s all r)
