@@ -1,0 +1,4 @@
+pub mod Unpin
+pub mod UnpinRule
+pub mod Folded
+pub mod Found
