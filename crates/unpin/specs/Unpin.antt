@@ -1,5 +1,5 @@
 -- Which C++ names must be Unpin, and why: `required_unpin_reasons` of unpin.rs. The source asks for names that an alias bears; here every extern C++ type is
--- asked for, whether a CxxType or an alias declares it (docs/DIFFERENCES.md).
+-- asked for, whether a CxxType or an alias declares it: by the source's rule a name without a reason could have such a slice, receiver or reference.
 -- Assumes nothing: these are definitions.
 use Rattle.std.specs.Prelude.{ℕ, ◌+◌, ◌-◌, ◌%◌, ◌<◌, ◌≡◌, List, [], ◌∷◌, ◌++◌, Bool, not, ◌&&◌, length, get_or, ltb, eqb}
 use Rattle.rules.specs.Numbers.{Ident, Ref, SliceRef, name_count}
@@ -56,7 +56,7 @@ unfoldable pub last_for : (n : ℕ) → UnpinReason → List Find → UnpinReaso
 last_for n u [] = u
 last_for n u (f ∷ fs) = last_for n (if' eqb f.0 n then f.1 else u) fs
 
--- as an answer has it, and back: what it has of the name
+-- as the table of all names has it, and back: what the table has of a name
 abbrev pub because : UnpinReason → Unpin
 because u = record { reason = u }
 

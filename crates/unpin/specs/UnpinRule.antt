@@ -68,7 +68,7 @@ module _ (s : List ℕ) (n : ℕ) where
     without : Asked → No MutSlice → No MutMethod → No MutRef → Stands None
     not_asked : (Asked → ⊥) → Stands None
 
--- of the reasons of an answer
+-- of the reasons of all names
 pub record UnpinRule (s : List ℕ) (reasons : List Unpin) : Type 0 where
   pub stands : (n : ℕ) → n < name_count → Stands s n (reason_for reasons n)
   -- a reason shown exists in the sheet
