@@ -19,19 +19,24 @@ const HEAD: &str = "\
 -- What the original Rust answers, held against the definitions. Written by `equations`.
 use Rattle.std.specs.Prelude.{ℕ, ◌≡◌, refl, List, [], ◌∷◌, ◌++◌}
 use Rattle.rules.specs.declared.Place.TheVariants.{R, G, I, F, A, O, D, L}
+use Rattle.rules.specs.declared.Fault.TheVariants.{ShortScratch, LongSheet, ShortSheet, TooMany, Misplaced, BadValue, BadRow, EqualRow}
 use Rattle.rules.specs.Diagnostics.{tell}
 use Rattle.rules.specs.Answer.{refused}
 use Rattle.rules.specs.Table.{outcome_of, blanks, scratch}
 use Rattle.rules.specs.Computed.{computed, collected}
 ";
 
+/// The definitions' names of refusals 1 to 8.
+const FAULTS: [&str; 8] = ["ShortScratch", "LongSheet", "ShortSheet", "TooMany", "Misplaced", "BadValue", "BadRow", "EqualRow"];
+
 fn equation(text: &mut String, number: usize, sheet: &[u8]) {
     let bytes = list(sheet);
     let expected = match judge(sheet) {
         Outcome::TooLarge => return,
         Outcome::Refused(refusal) => {
-            let (why, at) = (refusal.number, refusal.position);
-            (0, format!("record {{ answer = refused {why} {at}; list = []; scratch = scratch }}"))
+            let (fault, position) = (FAULTS[usize::from(refusal.number) - 1], refusal.position);
+            let refused = format!("refused (record {{ fault = {fault}; position = {position} }})");
+            (0, format!("record {{ answer = {refused}; list = []; scratch = scratch }}"))
         }
         Outcome::Accepted(answer) => {
             let rows = list(&answer.collected);

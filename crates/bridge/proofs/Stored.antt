@@ -7,9 +7,9 @@ use native.Mathlib.Omega.{arith}
 use mathlib.Core.List.{List}
 use lib.ListN.{length}
 use lib.Seq.{sets}
+use Rattle.std.specs.Prelude.{Ok, Err}
+use Rattle.rules.specs.Format.{Step}
 use Rattle.rules.specs.Numbers.{record_size, report_size}
-use Rattle.rules.specs.declared.Step.{Step}
-use Rattle.rules.specs.declared.Step.TheVariants.{Next, Refused}
 use Rattle.rules.specs.declared.Diagnostic.{Diagnostic}
 use Rattle.rules.specs.declared.Answer.{Answer}
 use Rattle.rules.specs.Answer.{read_with}
@@ -38,8 +38,8 @@ unfolding records_by
 small-records s k = go (read_with k s) refl
   where
     go : (v : Step) → read_with k s ≡ v → All Small (records_by v s)
-    go (Refused number position) e = none
-    go (Next e) h = small-report s (accepted-is k s e h)
+    go (Err r) e = none
+    go (Ok e) h = small-report s (accepted-is k s e h)
 
 -- and they are few
 few-records : (s : List ℕ) (k : ℕ) → length (records_of s k) ≤ report_size
@@ -47,8 +47,8 @@ unfolding records_by
 few-records s k = go (read_with k s) refl
   where
     go : (v : Step) → read_with k s ≡ v → length (records_by v s) ≤ report_size
-    go (Refused number position) e = omega arith
-    go (Next e) h = omega (arith, total-few s (accepted-is k s e h))
+    go (Err r) e = omega arith
+    go (Ok e) h = omega (arith, total-few s (accepted-is k s e h))
 
 -- ## The call
 

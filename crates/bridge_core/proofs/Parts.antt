@@ -6,8 +6,9 @@ use native.Mathlib.Omega.{arith}
 use mathlib.Core.List.{List, [], ◌∷◌, ◌++◌, append-nil}
 use lib.ListN.{length, get_or, take, set, replicate, length-replicate, drop_of_length-le}
 use lib.Seq.{sets, sets-eq, take_all, length-take-le}
+use Rattle.std.specs.Prelude.{Ok, Err}
 use Rattle.rules.specs.Numbers.{name_count, set_count, most_items, struct_set, enum_set, cxx_set, rust_set, alias_set, untrusted_set, required_trivial_set}
-use Rattle.rules.specs.declared.Verdict.TheVariants.{Accepted, Refused}
+use Rattle.rules.specs.declared.Refusal.{Refusal}
 use Rattle.rules.specs.declared.NameSet.{NameSet}
 use Rattle.rules.specs.declared.Answer.{Answer}
 use Rattle.rules.specs.Names.{Words, empty, size}
@@ -22,10 +23,10 @@ use Rattle.bridge_core.specs.Run.{answer_with}
 -- ## Refused
 
 -- of a set's words
-abbrev none : (n p : ℕ) → Words → Answer
-none n p w =
+abbrev none : Refusal → Words → Answer
+none r w =
     record {
-      verdict = Refused n p;
+      verdict = Err r;
       sets = replicate set_count (name_set w);
       sizes = replicate set_count 0;
       reasons = replicate name_count 0;
@@ -35,9 +36,9 @@ none n p w =
       total = 0;
     }
 
-pub refused-is : (n p : ℕ) (x : NameSet) → x.words ≡ empty → none n p x.words ≡ refused n p
+pub refused-is : (r : Refusal) (x : NameSet) → x.words ≡ empty → none r x.words ≡ refused r
 unfolding refused
-refused-is n p x e = ap (none n p) e
+refused-is r x e = ap (none r) e
 
 -- ## Reasons
 
@@ -96,7 +97,7 @@ module _ (w : List ℕ) (structs : ℕ) (order tiers : List ℕ) (total : ℕ) w
       → Sized (names_in w cxx_set) c k → Sized (names_in w rust_set) d l → Sized (names_in w alias_set) e m → Sized (names_in w untrusted_set) f n
       → Sized (names_in w required_trivial_set) g o → p ≡ size h.words → reasons ≡ counts_in w required_trivial_set
       → record {
-        verdict = Accepted;
+        verdict = Ok tt;
         sets = a ∷ b ∷ c ∷ d ∷ e ∷ f ∷ g ∷ h ∷ [];
         sizes = i ∷ j ∷ k ∷ l ∷ m ∷ n ∷ o ∷ p ∷ [];
         reasons = reasons;

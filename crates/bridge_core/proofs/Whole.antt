@@ -26,7 +26,6 @@ use Rattle.laws.proofs.Report.Bounds.Walk.{structs-few}
 use Rattle.laws.proofs.Sheet.Accepted.{few-items}
 use Rattle.names.specs.Known.{tabled}
 use Rattle.scratch.specs.Bytes.{marks_end}
-use Rattle.types.specs.declared.Collected.{Collected}
 use Rattle.types.specs.Post.{Collects}
 use Rattle.toposort.specs.declared.Sorted.{Sorted}
 use Rattle.toposort.specs.Post.{Sorts, Tiered}
@@ -44,11 +43,11 @@ cleared-over n b b' h = ap (λ (l : List ℕ). replicate n 0 ++ l) (h ∙ drop_a
 abbrev behind : ℕ
 behind = scratch_size - marks_end
 
-module _ {s b b' names out out₁ : List ℕ} {cx₀ : Errors} {k : Collected} (c : Collects s b b' names out out₁ cx₀ k) where
+module _ {s b b' names : List ℕ} {cx₀ cx₁ : Errors} {k : ℕ} (c : Collects s b b' names cx₀ cx₁ k) where
   -- what the checks are given
-  pub given : Accepted s → Checkable s names b' k.rows
+  pub given : Accepted s → Checkable s names b' k
   given acc =
-      record { accepted = acc; names_held = c.known; count = c.count; row = λ i l. c.rows i (let e = c.count in omega arith) }
+      record { accepted = acc; names_held = c.known; count = c.count; row = λ i l. c.pairs i (let e = c.count in omega arith) }
 
   -- past the bytes that are cleared nothing changed
   clear-again : cleared b' ≡ cleared b
@@ -57,9 +56,9 @@ module _ {s b b' names out out₁ : List ℕ} {cx₀ : Errors} {k : Collected} (
       cleared-over scratch_size b b'
       (sym (drop-drop behind marks_end b') ∙ ap (drop behind) c.rest ∙ drop-drop behind marks_end (replicate scratch_size 0 ++ drop scratch_size b))
 
-  module _ {d out₂ out₃ : List ℕ} {w : Sorted} {cx : Errors} (acc : Accepted s) (held : RowTable s (plain_lead s (types_of s)) d)
-      (o : Sorts s d out₁ k.errors w out₂) (told : Reported out₂ w.errors (checks s (types_of s)) cx out₃) where
-    all_told : Reported out cx₀ (report s) cx out₃
+  module _ {d : List ℕ} {w : Sorted} {cx₂ cx : Errors} (acc : Accepted s) (held : RowTable s (plain_lead s (types_of s)) d)
+      (o : Sorts s d cx₁ w cx₂) (told : Reported cx₂ (checks s (types_of s)) cx) where
+    all_told : Reported cx₀ (report s) cx
     unfolding report report_of
     all_told = meant (also (also c.errors (plain-sorts held o).errors) told) (sym (append_assoc (duplicates s ++ (walk_of s (types_of s)).errors) _ _))
 
@@ -94,14 +93,12 @@ module _ {s b b' names out out₁ : List ℕ} {cx₀ : Errors} {k : Collected} (
         )
 
     -- the sink began at 0
-    pub checked : {words tiers e : List ℕ} {from : ℕ} {r : Answer} → cx₀ ≡ record { total = 0; from = from } → Tiered s d tiers → Searched s words
-        → e ≡ cleared b' → r ≡ answer_with names words w.len w.order tiers cx.total → RunAccepted s b out from r e out₃
-    checked {from = from} begun ti im e a =
+    pub checked : {words tiers e out' : List ℕ} {r : Answer} → cx₀.total ≡ 0 → Tiered s d tiers → Searched s words
+        → e ≡ cleared b' → r ≡ answer_with names words w.len w.order tiers cx.total → out' ≡ cx.out.now → RunAccepted s b cx₀.out.now cx₀.from r e out'
+    checked none ti im e a w =
         let few : length (report s) ≤ most = omega (arith, total-few s acc) in
-        let none : cx₀.total ≡ 0 = ap (λ (x : Errors). x.total) begun in
-        let start : cx₀.from ≡ from = ap (λ (x : Errors). x.from) begun in
         record {
-          answer = a ∙ answer-is ti im (reported-total (report s) few out out₃ cx₀ cx none all_told);
+          answer = a ∙ answer-is ti im (reported-total (report s) few cx₀ cx none all_told);
           scratch = e ∙ clear-again;
-          window = rw start at (reported-window (report s) few out out₃ cx₀ cx none all_told);
+          window = w ∙ reported-window (report s) few cx₀ cx none all_told;
         }

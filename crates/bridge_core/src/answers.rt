@@ -7,14 +7,14 @@ ghost use Rattle.bridge_core.specs.Run.{answer_with};
 
 use names::known;
 use names::known::Names;
-use rules::{Answer, NameSet, Verdict, limit, name, set};
+use rules::{Answer, NameSet, Refusal, limit, name, set};
 
-pub fn refused(number: u8, position: usize) -> Answer
-    ensures { result ≡ refused_answer number position }
+pub fn refused(refusal: Refusal) -> Answer
+    ensures { result ≡ refused_answer refusal }
 {
     let none = names::empty();
     Answer {
-        verdict: Verdict::Refused { number, position },
+        verdict: Err(refusal),
         sets: [none; set::COUNT],
         sizes: [0; set::COUNT],
         reasons: [0; name::COUNT],
@@ -30,10 +30,8 @@ fn reasons(table: &Names) -> [u16; 256]
     ensures { result ≡ counts_in table.now required_trivial_set }
 {
     let mut all = [0u16; 256];
-    let mut n: u16 = 0;
-    while n < 256 {
+    for n in 0..256u16 {
         all[n as usize] = known::reasons_for(table, n);
-        n += 1;
     }
     all
 }
@@ -57,7 +55,7 @@ pub fn accepted(
     let untrusted = known::set_of(table, set::UNTRUSTED);
     let trivial = known::set_of(table, set::REQUIRED_TRIVIAL);
     Answer {
-        verdict: Verdict::Accepted,
+        verdict: Ok(()),
         sets: [
             shared, enums, cxx, rust, aliases, untrusted, trivial, improper,
         ],

@@ -1,10 +1,10 @@
 -- Sets of names without a common name: where no word of the one has a bit that the same word of the other has. A bit of `&` is the smaller of the two bits, so
 -- where `&` is 0 no bit is in both; and a name is a bit of one of the four words.
 -- Assumes nothing.
-use Prim.Native.Nat.{ℕ, zero, suc, ◌/◌, ◌%◌, ◌^◌, ◌<◌, min}
+use Prim.Native.Nat.{ℕ, ◌/◌, ◌%◌, ◌^◌, ◌<◌, min}
 use mathlib.Core.Path.{◌≡◌, sym, ap, ◌∙◌}
 use mathlib.Core.Logic.{◌≢◌}
-use mathlib.Core.Bool.{Bool, true, false, not, ◌||◌}
+use mathlib.Core.Bool.{Bool, true, false, not}
 use native.Mathlib.Nat.{zero-div}
 use native.Mathlib.Omega.{arith}
 use native.Mathlib.Decide.{dec_lt}
@@ -14,7 +14,7 @@ use lib.Bits.{bit_and, and_step, and_shr}
 use lib.Dec.{eqb}
 use lib.ListN.{length, get_or}
 use Rattle.rules.specs.Names.{Words, bit_of, ◌∋◌}
-use Rattle.laws.proofs.Base.Tests.{never, neither}
+use Rattle.laws.proofs.Base.Tests.{never}
 use Rattle.names.proofs.Laws.{contains-not}
 use Rattle.improper.specs.Targets.{Apart}
 
@@ -44,21 +44,14 @@ apart-word a b k e h =
     let none : min (bit_of a k) (bit_of b k) ≡ 0 = sym (and-bit a b k) ∙ ap (λ w. bit_of w k) e ∙ bit-zero k in
     ne_eqb (bit_of b k) 1 (not-one (bit_of a k) (bit_of b k) none (eqb-true (bit_of a k) 1 h))
 
--- word q of the two sets, as the code asks
-abbrev shares : (a b : Words) (q : ℕ) → Bool
+-- the two sets share a name of word q, as the code asks
+abbrev pub shares : (a b : Words) (q : ℕ) → Bool
 shares a b q = not (eqb (bit_and (get_or a q 0) (get_or b q 0)) 0)
-
-four : (P : ℕ → Type 0) → P 0 → P 1 → P 2 → P 3 → (q : ℕ) → q < 4 → P q
-four P a b c d zero l = a
-four P a b c d (suc zero) l = b
-four P a b c d (suc (suc zero)) l = c
-four P a b c d (suc (suc (suc zero))) l = d
-four P a b c d (suc (suc (suc (suc q)))) l = absurd (omega arith)
 
 -- ## Sets
 
 module _ (a b : Words) (long : length a ≡ 4) where
-  apart : ((q : ℕ) → q < 4 → shares a b q ≡ false) → Apart a b
+  pub apart : ((q : ℕ) → q < 4 → shares a b q ≡ false) → Apart a b
   unfolding ◌∋◌
   apart none j h = go (dec_lt (j / 64) 4)
     where
@@ -67,12 +60,3 @@ module _ (a b : Words) (long : length a ≡ 4) where
           let e = eqb-true (bit_and (get_or a (j / 64) 0) (get_or b (j / 64) 0)) 0 (not-false _ (none (j / 64) l)) in
           apart-word (get_or a (j / 64) 0) (get_or b (j / 64) 0) (j % 64) e h
       go (no m) = never (contains-not a long j (omega arith) ∙ h)
-
-  -- the four tests, joined
-  pub four-apart : (w x y z : Bool) → w ≡ shares a b 0 → x ≡ shares a b 1 → y ≡ shares a b 2 → z ≡ shares a b 3
-      → ((w || x) || (y || z)) ≡ false → Apart a b
-  four-apart w x y z ew ex ey ez e =
-      let halves = neither (w || x) (y || z) e in
-      let low = neither w x halves.0 in
-      let high = neither y z halves.1 in
-      apart (four (λ q. shares a b q ≡ false) (sym ew ∙ low.0) (sym ex ∙ low.1) (sym ey ∙ high.0) (sym ez ∙ high.1))

@@ -4,11 +4,13 @@
 use Prim.Native.Nat.{ℕ, zero, suc, ◌≤◌, ◌<◌}
 use mathlib.Core.Path.{◌≡◌, refl, sym, ap, ◌∙◌, subst}
 use mathlib.Core.Bool.{Bool, true, false}
-use mathlib.Core.List.{List}
+use mathlib.Core.List.{List, []}
 use native.Mathlib.Numerals.{add-one}
 use native.Mathlib.Omega.{arith}
 use lib.Dec.{eqb}
-use lib.ListN.{length}
+use lib.ListN.{length, get_or}
+use denote.Ref.{Bor}
+use Rattle.std.specs.Prelude.{Option, Some, None}
 use Rattle.rules.specs.Names.{Words, ◌∋◌, add}
 use Rattle.rules.specs.Types.{types_of}
 use Rattle.rules.specs.Improper.{Look, fine, bad, to, Looks, looks_fields, looks_look, looks_of, hits, is_new, pass_to}
@@ -17,7 +19,7 @@ use Rattle.laws.proofs.Base.Tests.{never, neither}
 use Rattle.laws.proofs.Names.NameSets.{has-add}
 use Rattle.laws.proofs.Names.ImproperSearch.{passed}
 use Rattle.improper.specs.Post.{Passes}
-use Rattle.improper.specs.Targets.{LeadsBelow, Skips, NoneBad, Later}
+use Rattle.improper.specs.Targets.{Apart, LeadsBelow, Skips, NoneBad, Later, LaterBy}
 use Rattle.improper.proofs.PassTurns.{found_in, found-start, found-on, found-hit}
 
 module _ (s : List ℕ) where
@@ -104,11 +106,17 @@ module _ (s : List ℕ) where
       subst (λ (k : ℕ). found_in s w n k ≡ false) (add-one m) (found-on s w n m (found_none w n m (λ k l. h k (omega arith))) (h m (omega arith)))
 
   -- b are the names found before the pass, w those found so far
-  pub skipped : (b w : Words) (first : Bool) (t : List Words) (n : ℕ) → Later s b t → Skips first t n w → n < 256 → b ∋ n ≡ false
+  skipped : (b w : Words) (t : List Words) (n : ℕ) → Later s b t → Apart (get_or t n []) w → n < 256 → b ∋ n ≡ false
       → found_in s w n (looks_fields s (types_of s) n) ≡ false
-  skipped b w first t n later skips l e = found_none w n (looks_fields s (types_of s) n) (λ k m. by k m (looks_look s (types_of s) n k) refl)
+  skipped b w t n later apart l e = found_none w n (looks_fields s (types_of s) n) (λ k m. by k m (looks_look s (types_of s) n k) refl)
     where
       by : (k : ℕ) → k < looks_fields s (types_of s) n → (a : Look) → looks_look s (types_of s) n k ≡ a → hits w a ≡ false
       by k m fine q = refl
       by k m bad q = absurd (later.none_bad n l e k m q)
-      by k m (to j) q = skips.apart j ((later.leads.rows n l e).has k j m q)
+      by k m (to j) q = apart j ((later.leads.rows n l e).has k j m q)
+
+  -- as a pass asks it, with a table or none
+  pub skipped_by : (b w : Words) (t : Option (Bor (List Words))) (n : ℕ) → LaterBy s b t → Skips t n w → n < 256 → b ∋ n ≡ false
+      → found_in s w n (looks_fields s (types_of s) n) ≡ false
+  skipped_by b w None n later skips l e = absurd skips
+  skipped_by b w (Some t) n later skips l e = skipped b w t.now n later skips l e

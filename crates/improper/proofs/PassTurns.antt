@@ -1,62 +1,51 @@
 -- The turns of a pass: over the fields of a name's last struct, and over the names.
 -- Assumes nothing.
-use Prim.Native.Nat.{ℕ, zero, suc, ◌+◌, ◌-◌, ◌*◌, ◌≤◌, ◌<◌}
+use Prim.Native.Nat.{ℕ, zero, suc, ◌+◌, ◌-◌, ◌<◌}
 use mathlib.Core.Path.{◌≡◌, refl, sym, ap, ◌∙◌}
 use mathlib.Core.Logic.{◌≢◌}
 use mathlib.Core.Bool.{Bool, true, false, ◌||◌}
 use mathlib.Core.List.{List}
 use native.Mathlib.Numerals.{add-one}
 use native.Mathlib.Omega.{arith}
-use borrow.Author.Tests.{le-ltb, ne_eqb}
-use lib.Dec.{eqb}
-use lib.ListN.{length, get_or}
-use Rattle.rules.specs.Numbers.{no_item, name_count, most_rows}
+use borrow.Author.Tests.{ne_eqb}
+use lib.ListN.{get_or}
+use Rattle.rules.specs.Numbers.{no_item, most_rows}
 use Rattle.rules.specs.Base.{if'◌then◌else◌}
 use Rattle.rules.specs.Format.{pair_at}
 use Rattle.rules.specs.Names.{Words, ◌∋◌, add}
 use Rattle.rules.specs.View.{rows, rest, entry, field_count, field}
 use Rattle.rules.specs.Types.{Types, types_of, struct_of}
-use Rattle.rules.specs.Improper.{Looks, fine, bad, look_row, looks_fields, looks_look, looks_of, hits, found, is_new, pass_to}
+use Rattle.rules.specs.Improper.{Looks, look_row, looks_fields, looks_look, looks_of, hits, found, is_new, pass_to}
 use Rattle.rules.specs.Rule3.{IsStruct}
 use Rattle.laws.proofs.Names.LastItems.{of-last}
 use Rattle.laws.proofs.Sheet.Accepted.{field_row}
 use Rattle.laws.proofs.Sheet.Accepted.Items.{StructOf, item-of}
 use Rattle.names.specs.Known.{tabled}
+use Rattle.row_tables.specs.declared.looks.Look.{Look as Entry}
 use Rattle.row_tables.specs.Tables.{look_of}
-use Rattle.row_tables.proofs.NameLooks.{look-name}
 use Rattle.improper.specs.Post.{Searchable, Passes}
-
--- ## A field, by its number
-
-pub hits-name : (w : Words) (c : ℕ) → c < name_count → (w ∋ c) ≡ hits w (look_of c)
-hits-name w c h = rw (look-name c h)
-
-pub hits-code : (w : Words) (c : ℕ) → name_count ≤ c → eqb c name_count ≡ hits w (look_of c)
-unfolding look_of if'◌then◌else◌
-hits-code w c h = rw (le-ltb c name_count h, if'◌then◌else◌) (go (eqb c name_count))
-  where
-    go : (b : Bool) → b ≡ hits w (if' b then bad else fine)
-    go true = refl
-    go false = refl
+use Rattle.improper.specs.Fields.{FieldsOf}
 
 -- ## The last struct of a name
 
--- its fields begin at a place, and there are so many; what a row among them is
-pub record FieldsOf (s looks : List ℕ) (n at fields : ℕ) : Type 0 where
-  pub count : fields ≡ looks_fields s (types_of s) n
-  pub few : fields ≤ 64
-  pub inside : (k : ℕ) → k < fields → at + 4 + 2 * k ≤ length s
-  pub small : (k row : ℕ) → row ≡ entry s at k → k < fields → row < most_rows
-  pub look : (k row : ℕ) → row ≡ entry s at k → k < fields → look_of (get_or looks row 0) ≡ looks_look s (types_of s) n k
-
 -- i is what the table of names has for it
-module _ (s names looks : List ℕ) (given : Searchable s names looks) (n i : ℕ) (e : i ≡ struct_of (tabled s names) n) where
+module _ (s names : List ℕ) (looks : List Entry) (given : Searchable s names looks) (n i : ℕ) (e : i ≡ struct_of (tabled s names) n) where
   struct_is : i ≡ struct_of (types_of s) n
   struct_is = e ∙ ap (λ (t : Types). struct_of t n) given.own
 
-  pub fields-none : i ≡ no_item → looks_fields s (types_of s) n ≡ 0
+  no-fields : i ≡ no_item → looks_fields s (types_of s) n ≡ 0
   unfolding looks_fields if'◌then◌else◌
-  fields-none q = rw (← struct_is, q)
+  no-fields q = rw (← struct_is, q)
+
+  -- it has none
+  pub fields-none : (at : ℕ) → i ≡ no_item → FieldsOf s looks n at 0
+  fields-none at q =
+      record {
+        count = sym (no-fields q);
+        inside = λ k l. absurd (omega arith);
+        small = λ k row r l. absurd (omega arith);
+        look = λ x k row r l. absurd (omega arith);
+      }
 
   module _ (ne : i ≢ no_item) where
     is-item : IsStruct s i
@@ -73,9 +62,6 @@ module _ (s names looks : List ℕ) (given : Searchable s names looks) (n i : �
     of_struct : StructOf s i
     of_struct = (item-of s given.accepted i is-item.below).as_struct is-item.is_struct
 
-    fields-few : looks_fields s (types_of s) n ≤ 64
-    fields-few = omega (arith, counts, of_struct.few-fields)
-
     -- field k of it
     module _ (at row k : ℕ) (a : at ≡ rest s i) (r : row ≡ entry s at k) (h : k < looks_fields s (types_of s) n) where
       row_is : row ≡ field s i k
@@ -88,10 +74,10 @@ module _ (s names looks : List ℕ) (given : Searchable s names looks) (n i : �
       row_small : row < most_rows
       row_small = let few = given.rows.few in let below = row_below in omega arith
 
-      look_is : look_of (get_or looks row 0) ≡ looks_look s (types_of s) n k
+      look_is : (x : Entry) → look_of (get_or looks row x) ≡ looks_look s (types_of s) n k
       unfolding looks_look
-      look_is =
-          given.rows.entries row row_below
+      look_is x =
+          given.rows.entries x row row_below
           ∙ ap (λ (t : Types). look_row s t (rows s) row) given.own
           ∙ ap (look_row s (types_of s) (rows s)) (row_is ∙ ap (λ x. field s x k) struct_is)
 
@@ -101,10 +87,9 @@ module _ (s names looks : List ℕ) (given : Searchable s names looks) (n i : �
         let count : m ≡ looks_fields s (types_of s) n = fields-are at m a q in
         record {
           count = count;
-          few = omega (arith, count, fields-few);
           inside = λ k l. rw a (of_struct.fields-inside k (omega (arith, count, counts)));
           small = λ k row r l. row_small at row k a r (omega (arith, count));
-          look = λ k row r l. look_is at row k a r (omega (arith, count));
+          look = λ x k row r l. look_is at row k a r (omega (arith, count)) x;
         }
 
 -- ## The fields

@@ -1,13 +1,12 @@
 -- Passes until one finds none: the set of each is that of the definition's search, and each pass that finds a name leaves fewer names to find.
 -- Assumes nothing.
-use Prim.Native.Nat.{ℕ, zero, suc, ◌+◌, ◌<◌}
+use Prim.Native.Nat.{ℕ, zero, suc, ◌<◌}
 use mathlib.Core.Path.{◌≡◌, refl, sym, ap, ◌∙◌}
 use mathlib.Core.Bool.{Bool, true, false}
 use mathlib.Core.List.{List}
 use native.Mathlib.Omega.{arith}
 use lib.ListN.{length}
 use Rattle.rules.specs.Format.{Accepted}
-use Rattle.rules.specs.Diagnostics.{bit}
 use Rattle.rules.specs.Names.{Words, empty, ◌∋◌}
 use Rattle.rules.specs.Types.{types_of}
 use Rattle.rules.specs.Improper.{looks_of, pass_to, search, improper_of}
@@ -49,22 +48,18 @@ module _ (s : List ℕ) (w : Words) (long : length w ≡ 4) where
   pass-done zero l e q = absurd (omega arith)
   pass-done (suc f) l e q = sym (e ∙ rw (search, q))
 
-  falls : (b : Bool) → (pass_of s w).1 ≡ b → left (pass_of s w).0 + bit b < left w + 1
-  falls true q = omega (arith, pass.fewer q)
-  falls false q = omega (arith, pass.less)
-
-module _ (s : List ℕ) (w : Words) (new : Bool) (h : Searching s w new) (yes : new ≡ true) (w' : Words) (new' : Bool) (p : Passes s w 256 w' new') where
+module _ (s : List ℕ) (w : Words) (h : Searching s w true) (w' : Words) (new' : Bool) (p : Passes s w 256 w' new') where
   pub searching-on : Searching s w' new'
   searching-on =
-      let r = h.going yes in
+      let r = h.going refl in
       record {
         size = ap length p.names ∙ (pass s w h.size).four;
         going = λ b. rw p.names (pass_on s w h.size r.0 r.1 r.2 (sym p.found ∙ b));
         done = λ b. p.names ∙ pass-done s w h.size r.0 r.1 r.2 (sym p.found ∙ b);
       }
 
-  pub searching-less : left w' + bit new' < left w + bit new
-  searching-less = rw (p.names, p.found, yes) (falls s w h.size (pass_of s w).1 refl)
+  pub searching-less : new' ≡ true → left w' < left w
+  searching-less b = rw p.names ((pass s w h.size).fewer (sym p.found ∙ b))
 
 pub searched : (s : List ℕ) → Accepted s → (w : Words) → w ≡ improper_of s (types_of s) → Searched s w
 searched s acc w e = record { words = e; rule = rw e (improper-rule s acc) }

@@ -1,46 +1,39 @@
 -- The table of targets as it is filled: a set takes the name of each field that has one and keeps what it has, so it has the names of all fields before the
 -- next; and the table takes the set of each name that is not found.
 -- Assumes nothing.
-use Prim.Native.Nat.{ℕ, ◌+◌, ◌/◌, ◌%◌, ◌^◌, ◌≤◌, ◌<◌}
+use Prim.Native.Nat.{ℕ, ◌+◌, ◌/◌, ◌%◌, ◌^◌, ◌<◌}
 use mathlib.Core.Path.{◌≡◌, refl, sym, ap, ◌∙◌, subst}
-use mathlib.Core.Bool.{Bool, true, false, ◌||◌}
+use mathlib.Core.Bool.{true, false, ◌||◌}
 use mathlib.Core.List.{List, []}
 use native.Mathlib.Omega.{arith}
-use borrow.Author.Tests.{le-ltb}
 use lib.Bits.{bit_or}
 use lib.Dec.{eqb}
 use lib.ListN.{length, length-set, get_or, set}
 use lib.Seq.{get_or-set_same, get_or-set_other}
 use Rattle.rules.specs.Numbers.{name_count}
-use Rattle.rules.specs.Base.{if'◌then◌else◌}
 use Rattle.rules.specs.Names.{Words, ◌∋◌, add}
 use Rattle.rules.specs.Types.{types_of}
 use Rattle.rules.specs.Improper.{Look, fine, bad, to, looks_look}
 use Rattle.laws.proofs.Base.Counts.{Eq?, same, other, eq?, eqb_same}
 use Rattle.laws.proofs.Base.Tests.{never, or-true}
 use Rattle.laws.proofs.Names.NameSets.{has-add, length-add}
+use Rattle.row_tables.specs.declared.looks.Look.{Look as Entry}
+use Rattle.row_tables.specs.declared.looks.Look.TheVariants.{Name, Improper, Proper}
 use Rattle.row_tables.specs.Tables.{look_of}
-use Rattle.row_tables.proofs.NameLooks.{look-name}
 use Rattle.improper.specs.Targets.{LeadsTo, Leads, LeadsBelow}
 
 -- ## A set
 
 -- the set with the look's name, where it has one
-pub record Took (before : Words) (look : ℕ) (after : Words) : Type 0 where
+pub record Took (before : Words) (look : Entry) (after : Words) : Type 0 where
   pub long : length after ≡ 4
   pub keeps : (j : ℕ) → before ∋ j ≡ true → after ∋ j ≡ true
   pub has : (j : ℕ) → look_of look ≡ to j → after ∋ j ≡ true
 
--- the name of a look, and whether it has one
 abbrev name_of : Look → ℕ
 name_of fine = name_count
 name_of bad = name_count
 name_of (to j) = j
-
-abbrev is_name : Look → Bool
-is_name fine = false
-is_name bad = false
-is_name (to j) = true
 
 module _ (w : Words) (c : ℕ) where
   -- as the code stores it
@@ -48,27 +41,25 @@ module _ (w : Words) (c : ℕ) where
   unfolding add
   stored e = ap (set w (c / 64)) e
 
-  pub took-name : {x : ℕ} → c < name_count → x ≡ bit_or (get_or w (c / 64) 0) (2 ^ (c % 64)) → length w ≡ 4 → Took w c (set w (c / 64) x)
+  pub took-name : {x : ℕ} → c < name_count → x ≡ bit_or (get_or w (c / 64) 0) (2 ^ (c % 64)) → length w ≡ 4 → Took w (Name c) (set w (c / 64) x)
   took-name l e long =
       rw (stored e) (record {
         long = length-add w c ∙ long;
         keeps = λ j h. has-add w c j long l ∙ ap (λ b. eqb j c || b) h ∙ or-true (eqb j c);
-        has = λ j h. let q : c ≡ j = ap name_of (sym (look-name c l) ∙ h) in rw (← q) (has-add w c c long l ∙ rw (eqb_same c));
+        has = λ j h. let q : c ≡ j = ap name_of h in rw (← q) (has-add w c c long l ∙ rw (eqb_same c));
       })
 
-  pub took-none : name_count ≤ c → length w ≡ 4 → Took w c w
-  unfolding look_of if'◌then◌else◌
-  took-none l long = record { long = long; keeps = λ j h. h; has = λ j h. never (sym (none (eqb c name_count)) ∙ ap is_name (sym look-other ∙ h)) }
-    where
-      look-other : look_of c ≡ (if' eqb c name_count then bad else fine)
-      look-other = rw (le-ltb c name_count l, if'◌then◌else◌)
-
-      none : (b : Bool) → is_name (if' b then bad else fine) ≡ false
-      none true = refl
-      none false = refl
+-- a look without a name
+pub took-none : (w : Words) (c : Entry) → ((n : ℕ) → c ≡ Name n → ⊥) → length w ≡ 4 → Took w c w
+took-none w c none long = record { long = long; keeps = λ j h. h; has = λ j h. absurd (other c none j h) }
+  where
+    other : (c : Entry) → ((n : ℕ) → c ≡ Name n → ⊥) → (j : ℕ) → look_of c ≡ to j → ⊥
+    other (Name n) none j h = none n refl
+    other Improper none j h = cc
+    other Proper none j h = cc
 
 -- field k is taken
-pub leads-on : (s : List ℕ) (n k : ℕ) (w : Words) (c : ℕ) (v : Words) → LeadsTo s n k w → Took w c v → look_of c ≡ looks_look s (types_of s) n k
+pub leads-on : (s : List ℕ) (n k : ℕ) (w : Words) (c : Entry) (v : Words) → LeadsTo s n k w → Took w c v → look_of c ≡ looks_look s (types_of s) n k
     → LeadsTo s n (k + 1) v
 leads-on s n k w c v so_far took e x j l h = by (eq? x k)
   where

@@ -7,10 +7,11 @@ use Rattle.rules.specs.Types.{types_of}
 use Rattle.rules.specs.Improper.{looks_of, pass_to, improper_of}
 use Rattle.rules.specs.Rule3.{ImproperRule}
 use Rattle.names.specs.Known.{tabled}
+use Rattle.row_tables.specs.declared.looks.Look.{Look}
 use Rattle.row_tables.specs.Tables.{LookRows}
 
 -- the sheet is accepted, and the lent tables are its own: what is known of its names, and what its rows are
-pub record Searchable (s names looks : List ℕ) : Type 0 where
+pub record Searchable (s names : List ℕ) (looks : List Look) : Type 0 where
   pub accepted : Accepted s
   pub own : tabled s names ≡ types_of s
   pub rows : LookRows s (tabled s names) looks

@@ -1,9 +1,11 @@
 -- Where the fields of each name's last struct lead, as sets of names, and what a pass after the first may leave out by them.
 -- Assumes nothing: these are definitions.
-use Rattle.std.specs.Prelude.{ℕ, ◌<◌, ◌≡◌, Bool, true, false, List, [], length, get_or}
+use Rattle.std.specs.Prelude.{ℕ, ◌<◌, ◌≡◌, true, false, List, [], length, get_or, Option, Some, None, ⊤}
+use denote.Ref.{Bor}
 use Rattle.rules.specs.Names.{Words, ◌∋◌}
 use Rattle.rules.specs.Types.{types_of}
 use Rattle.rules.specs.Improper.{bad, to, looks_fields, looks_look}
+use Rattle.row_tables.specs.declared.looks.Look.{Look}
 use Rattle.improper.specs.Post.{Searchable}
 
 -- ## The table
@@ -27,10 +29,10 @@ pub record LeadsBelow (s : List ℕ) (found : Words) (n : ℕ) (t : List Words) 
 abbrev pub Apart : Words → Words → Type 0
 Apart a b = (j : ℕ) → a ∋ j ≡ true → b ∋ j ≡ false
 
--- the pass is not the first, and name n leads to no name of the set
-pub record Skips (first : Bool) (t : List Words) (n : ℕ) (w : Words) : Type 0 where
-  pub later : first ≡ false
-  pub apart : Apart (get_or t n []) w
+-- the pass is not the first, which has no table, and name n leads to no name of the set
+abbrev pub Skips : (t : Option (Bor (List Words))) (n : ℕ) (w : Words) → Type 0
+Skips None n w = ⊥
+Skips (Some t) n w = Apart (get_or t.now n []) w
 
 -- no field of name n's last struct is improper by itself
 abbrev pub NoneBad : (s : List ℕ) (n : ℕ) → Type 0
@@ -41,8 +43,13 @@ pub record Later (s : List ℕ) (w : Words) (t : List Words) : Type 0 where
   pub leads : LeadsBelow s w 256 t
   pub none_bad : (n : ℕ) → n < 256 → w ∋ n ≡ false → NoneBad s n
 
+-- after the first pass
+abbrev pub LaterBy : (s : List ℕ) (w : Words) (t : Option (Bor (List Words))) → Type 0
+LaterBy s w None = ⊤
+LaterBy s w (Some t) = Later s w t.now
+
 -- what a pass may assume
-pub record Ready (s names looks : List ℕ) (first : Bool) (t : List Words) (before : Words) : Type 0 where
+pub record Ready (s names : List ℕ) (looks : List Look) (t : Option (Bor (List Words))) (before : Words) : Type 0 where
   pub given : Searchable s names looks
   pub size : length before ≡ 4
-  pub later : first ≡ false → Later s before t
+  pub later : LaterBy s before t

@@ -2,103 +2,79 @@
 #![tactic(auto)]
 
 ghost use Rattle.std.specs.Prelude.{◌≡◌};
-ghost use Rattle.rules.specs.Improper.{hits};
+ghost use Rattle.rules.specs.Types.{types_of};
+ghost use Rattle.rules.specs.Improper.{hits, found, looks_of, looks_fields};
 ghost use Rattle.row_tables.specs.Tables.{look_of};
 ghost use Rattle.improper.specs.Post.{Searchable, Passes, Searched};
 ghost use Rattle.improper.specs.Targets.{Ready};
 
+use crate::fields::fields_of;
 use crate::targets::{Targets, all_targets, skips};
-use names::known::{Names, struct_of};
+use names::known::Names;
 use names::{contains, empty, insert};
-use row_tables::looks::IMPROPER;
+use row_tables::looks::Look;
 use rules::limit::ROWS;
-use rules::{NameSet, item, name};
-use sheet::items::{entry_within, rest};
-use sheet::pair_at;
+use rules::{NameSet, name};
+use sheet::items::entry_within;
 
+mod fields; // the fields of a name's last struct
 mod targets; // where the fields of a name lead, and what a pass may skip by it
 
-// What a pass makes of the set, and whether it found a name.
-#[derive(Clone, Copy)]
-pub struct Pass {
-    pub found: NameSet,
-    pub new: bool,
-}
-
 // Whether a field makes its struct improper, by the improper names so far.
-fn hits(found: NameSet, look: u16) -> bool
-    ensures { result ≡ hits found.words (look_of look) }
+fn hits(set: NameSet, look: Look) -> bool
+    ensures { result ≡ hits set.words (look_of look) }
 {
-    if look < 256 {
-        return contains(found, look);
+    match look {
+        Look::Name(n) => contains(set, n as u16),
+        Look::Improper => true,
+        Look::Proper => false,
     }
-    look == IMPROPER
 }
 
-// One pass over the names that have a struct and are not found yet. The first improper field decides for its struct. After the first pass a field that is
-// improper leads to a name found, so a struct that leads to none is skipped.
+// One pass over the names that have a struct and are not found yet; whether it finds one. The first improper field decides for its struct: the loop over
+// fields is left by a label, as document 01 names the form. After the first pass a field that is improper leads to a name
+// found, so a struct that leads to none is skipped.
 fn one_pass(
     s: &[u8],
     names: &Names,
-    looks: &[u16; ROWS],
-    first: bool,
-    targets: &Targets,
-    before: NameSet,
-) -> Pass
-    requires { Ready s.now names.now looks.now first targets.now before.words }
-    ensures { Passes s.now before.words 256 result.found.words result.new }
+    looks: &[Look; ROWS],
+    targets: Option<&Targets>,
+    set: &mut NameSet,
+) -> bool
+    requires { Ready s.now names.now looks.now targets set.old.words }
+    ensures { Passes s.now set.old.words 256 set.new.words result }
 {
-    let mut found = before;
     let mut new = false;
-    let mut n: u16 = 0;
-    'structs: while n < 256 {
-        let name = n;
-        n += 1;
-        if contains(found, name) {
-            continue 'structs;
+    'structs: for n in 0..name::COUNT as u16 {
+        if contains(*set, n) {
+            continue;
         }
-        if skips(first, targets, name, found) {
-            continue 'structs;
+        if skips(targets, n, *set) {
+            continue;
         }
-        let i = struct_of(names, name);
-        if i == item::NONE as u16 {
-            continue 'structs;
-        }
-        let at = rest(s, i);
-        let fields = pair_at(s, at as usize);
-        let mut k: u16 = 0;
-        while k < fields {
-            let row = entry_within(s, at, k) as usize;
-            k += 1;
-            if hits(found, looks[row]) {
-                found = insert(found, name);
+        let fields = fields_of(s, names, n);
+        for k in 0..fields.count {
+            let row = entry_within(s, fields.at, k) as usize;
+            if hits(*set, looks[row]) {
+                *set = insert(*set, n);
                 new = true;
                 continue 'structs;
             }
         }
     }
-    Pass { found, new }
+    new
 }
 
 // The improper names: passes until one finds none. The table of targets is made once the first has found one.
-pub fn search(s: &[u8], names: &Names, looks: &[u16; ROWS]) -> NameSet
+pub fn search(s: &[u8], names: &Names, looks: &[Look; ROWS]) -> NameSet
     requires { Searchable s.now names.now looks.now }
     ensures { Searched s.now result.words }
 {
-    let none: Targets = [[0; 4]; name::COUNT];
-    let start = empty();
-    let p = one_pass(s, names, looks, true, &none, start);
-    let mut found = p.found;
-    let mut new = p.new;
-    if !new {
-        return found;
+    let mut set = empty();
+    if !one_pass(s, names, looks, None, &mut set) {
+        return set;
     }
-    let targets = all_targets(s, names, looks, found);
-    while new {
-        let q = one_pass(s, names, looks, false, &targets, found);
-        let more = q.found;
-        found = more;
-        new = q.new;
-    }
-    found
+    let targets = all_targets(s, names, looks, set);
+    while one_pass(s, names, looks, Some(&targets), &mut set) {}
+    set
 }

@@ -6,7 +6,7 @@ use mathlib.Core.Bool.{Bool, true, false}
 use mathlib.Core.List.{List, [], ◌∷◌, ◌++◌, flat_map, append_assoc}
 use native.Mathlib.Omega.{arith}
 use native.Mathlib.Decide.{dec_le}
-use lib.ListN.{length, get_or, take, length-take}
+use lib.ListN.{length, get_or, take}
 use lib.Seq.{take_all, take-take}
 use Rattle.rules.specs.declared.Place.{Place}
 use Rattle.rules.specs.declared.Place.TheVariants.{R, G, I, F, A, O, D, L}
@@ -14,15 +14,18 @@ use Rattle.rules.specs.declared.Diagnostic.{Diagnostic}
 use Rattle.rules.specs.Base.{if'◌then◌else◌, over}
 use Rattle.rules.specs.Names.{Words, ◌∋◌}
 use Rattle.rules.specs.Diagnostics.{letter_of, numbers_of}
-use Rattle.rules.specs.Text.{ascii, spaced, line, tiers_along, members_to, place_text, record_line, printed}
+use Rattle.std.specs.Prelude.{Option, Some, None, slice_get}
+use Rattle.rules.specs.Text.{ascii, decimal, spaced, line, tiers_along, members_to, place_text, record_line, printed}
 use Rattle.laws.proofs.Base.Tests.{never}
 use Rattle.laws.proofs.Base.Flat.{flat-one, flat-over}
-use Rattle.errors.specs.Places.{has_second}
-use Rattle.lines.specs.Put.{Put}
+use Rattle.laws.proofs.Base.Digits.{short}
+use Rattle.lines.specs.declared.Text.{Text}
+use Rattle.lines.specs.Appends.{Appends, Short}
 use Rattle.lines.proofs.Laws.{none, also, meant}
 
-pub end : (k n : ℕ) → k ≤ n → n ≤ k → k ≡ n
-end k n a b = omega arith
+pub few-digits : {w n : ℕ} → Short w n → length (decimal n) ≤ w
+few-digits {w = zero} h = absurd (omega arith)
+few-digits {w = suc w} {n} h = short w n h.1
 
 -- an entry that is there, whatever stands for one that is not
 pub entry-any : {A : Type 0} (l : List A) (n : ℕ) (d e : A) → n < length l → get_or l n d ≡ get_or l n e
@@ -55,12 +58,12 @@ unfolding if'◌then◌else◌ flat_map
 if_no true n e = never (sym e)
 if_no false n e = refl
 
-pub members-start : (b : List ℕ) (at : ℕ) (w : Words) → Put b at (flat_map spaced (members_to 0 w)) at b
+pub members-start : (t : Text) (w : Words) → Appends t 0 (flat_map spaced (members_to 0 w)) t
 unfolding members_to over flat_map
-members-start b at w = none b at
+members-start t w = none t
 
-pub members-turn : {b b' b'' : List ℕ} {at m n : ℕ} (k : ℕ) (w : Words) (x : Bool) → x ≡ (w ∋ k) → Put b at (flat_map spaced (members_to k w)) m b'
-    → Put b' m (flat_map spaced (if' x then k ∷ [] else [])) n b'' → Put b at (flat_map spaced (members_to (k + 1) w)) n b''
+pub members-turn : {t t' t'' : Text} {m : ℕ} (k : ℕ) (w : Words) (x : Bool) → x ≡ (w ∋ k) → Appends t m (flat_map spaced (members_to k w)) t'
+    → Appends t' 4 (flat_map spaced (if' x then k ∷ [] else [])) t'' → Appends t (m + 4) (flat_map spaced (members_to (k + 1) w)) t''
 unfolding members_to
 members-turn k w x e p q =
     meant (also p q) (ap (λ (y : Bool). flat_map spaced (members_to k w) ++ flat_map spaced (if' y then k ∷ [] else [])) e
@@ -68,37 +71,53 @@ members-turn k w x e p q =
 
 -- ## A place
 
-numbers-are : (p : Place) → get_or (numbers_of p) 0 0 ∷ (if' has_second p then get_or (numbers_of p) 1 0 ∷ [] else []) ≡ numbers_of p
-unfolding if'◌then◌else◌
-numbers-are (R r) = refl
-numbers-are (G r j) = refl
-numbers-are (I i) = refl
-numbers-are (F i j) = refl
-numbers-are (A i j) = refl
-numbers-are (O i) = refl
-numbers-are (D i j) = refl
-numbers-are (L i j) = refl
+none-else : {A : Type 0} {j : ℕ} → ◌≡◌ {A = Option ℕ} (Some j) None → A
+none-else e = absurd (let z : ◌≡◌ {A = ℕ} 0 1 = cc in omega arith)
 
-module _ (p : Place) where
-  made : (letter first second : ℕ) → Bool → List ℕ
-  made x a y b = ((ascii " " ++ (x ∷ [])) ++ spaced a) ++ flat_map spaced (if' b then y ∷ [] else [])
+numbers-one : (p : Place) → slice_get (numbers_of p) 1 ≡ None → get_or (numbers_of p) 0 0 ∷ [] ≡ numbers_of p
+numbers-one (R r) e = refl
+numbers-one (G r j) e = none-else e
+numbers-one (I i) e = refl
+numbers-one (F i j) e = none-else e
+numbers-one (A i j) e = none-else e
+numbers-one (O i) e = refl
+numbers-one (D i j) e = none-else e
+numbers-one (L i j) e = none-else e
 
-  pub place_is : {x a y : ℕ} {b : Bool} → x ≡ letter_of p → a ≡ get_or (numbers_of p) 0 0 → b ≡ has_second p → y ≡ get_or (numbers_of p) 1 0
-      → ((ascii " " ++ (x ∷ [])) ++ spaced a) ++ flat_map spaced (if' b then y ∷ [] else []) ≡ place_text p
-  unfolding place_text made flat_map
-  place_is {x} {a} {y} {b} e f g h =
-      let rest : List ℕ = if' has_second p then get_or (numbers_of p) 1 0 ∷ [] else [] in
-      ap (λ (z : ℕ). made z a y b) e
-      ∙ ap (λ (z : ℕ). made (letter_of p) z y b) f
-      ∙ ap (λ (z : ℕ). made (letter_of p) (get_or (numbers_of p) 0 0) z b) h
-      ∙ ap (λ (z : Bool). made (letter_of p) (get_or (numbers_of p) 0 0) (get_or (numbers_of p) 1 0) z) g
-      ∙ append_assoc (ascii " " ++ (letter_of p ∷ [])) (spaced (get_or (numbers_of p) 0 0)) (flat_map spaced rest)
-      ∙ ap (λ (l : List ℕ). (ascii " " ++ (letter_of p ∷ [])) ++ flat_map spaced l) (numbers-are p)
+some-is : {i j : ℕ} → ◌≡◌ {A = Option ℕ} (Some i) (Some j) → i ≡ j
+some-is e = cc
+
+numbers-two : (p : Place) {j : ℕ} → slice_get (numbers_of p) 1 ≡ Some j → get_or (numbers_of p) 0 0 ∷ j ∷ [] ≡ numbers_of p
+numbers-two (R r) e = none-else (sym e)
+numbers-two (G r j) e = ap (λ (k : ℕ). r ∷ k ∷ []) (sym (some-is e))
+numbers-two (I i) e = none-else (sym e)
+numbers-two (F i j) e = ap (λ (k : ℕ). i ∷ k ∷ []) (sym (some-is e))
+numbers-two (A i j) e = ap (λ (k : ℕ). i ∷ k ∷ []) (sym (some-is e))
+numbers-two (O i) e = none-else (sym e)
+numbers-two (D i j) e = ap (λ (k : ℕ). i ∷ k ∷ []) (sym (some-is e))
+numbers-two (L i j) e = ap (λ (k : ℕ). i ∷ k ∷ []) (sym (some-is e))
+
+module _ (p : Place) {q : Place} (is : q ≡ p) {x a : ℕ} (e : x ≡ letter_of q) (f : a ≡ get_or (numbers_of q) 0 0) where
+  abbrev head : List ℕ
+  head = ascii " " ++ (letter_of p ∷ [])
+
+  pub place_one : slice_get (numbers_of p) 1 ≡ None → (ascii " " ++ (x ∷ [])) ++ spaced a ≡ place_text p
+  unfolding place_text
+  place_one h = rw (e, f, is) (ap (λ (l : List ℕ). head ++ l) (flat-one spaced _ ∙ ap (flat_map spaced) (numbers-one p h)))
+
+  pub place_two : {j : ℕ} → slice_get (numbers_of p) 1 ≡ Some j → ((ascii " " ++ (x ∷ [])) ++ spaced a) ++ spaced j ≡ place_text p
+  unfolding place_text flat_map
+  place_two {j} h =
+      let first : ℕ = get_or (numbers_of p) 0 0 in
+      rw (e, f, is)
+      (append_assoc head (spaced first) (spaced j)
+      ∙ ap (λ (l : List ℕ). head ++ (spaced first ++ l)) (flat-one spaced j)
+      ∙ ap (λ (l : List ℕ). head ++ flat_map spaced l) (numbers-two p h))
 
 -- ## Counts that are cut
 
-pub cut : (n : ℕ) (l : List Diagnostic) → n ≤ printed → flat_map record_line (take n l) ≡ flat_map record_line (take printed (take n l))
-cut n l h = ap (flat_map record_line) (sym (take_all printed (take n l) (omega (arith, length-take n l))))
+pub cut : (ds : List Diagnostic) → length ds ≤ printed → flat_map record_line ds ≡ flat_map record_line (take printed ds)
+cut ds h = ap (flat_map record_line) (sym (take_all printed ds h))
 
 -- before another cut
 pub take_twice : {A : Type 0} (l : List A) (n m : ℕ) → take m (take (min n m) l) ≡ take m (take n l)

@@ -6,28 +6,30 @@ use mathlib.Core.Path.{◌≡◌, refl, sym, ap, ◌∙◌}
 use mathlib.Core.List.{List, [], ◌∷◌, ◌++◌, flat_map, append_assoc}
 use native.Mathlib.Omega.{arith}
 use lib.ListN.{length, get_or, take, drop}
-use lib.Seq.{sets-eq}
+use lib.Seq.{sets, sets-eq}
+use Rattle.std.specs.Prelude.{⊤, Result, Ok, Err}
 use Rattle.rules.specs.Numbers.{name_count}
-use Rattle.rules.specs.declared.Verdict.{Verdict}
-use Rattle.rules.specs.declared.Verdict.TheVariants.{Accepted, Refused}
+use Rattle.rules.specs.declared.Refusal.{Refusal}
 use Rattle.rules.specs.declared.Answer.{Answer}
 use Rattle.rules.specs.declared.Diagnostic.{Diagnostic}
 use Rattle.rules.specs.Names.{empty}
-use Rattle.rules.specs.Answer.{name_set}
+use Rattle.rules.specs.Answer.{fault_number, name_set}
 use Rattle.rules.specs.Text.{line, tiers_along, members_to, record_line, printed, refused_text, accepted_text, text_of}
-use Rattle.lines.specs.Put.{Put, structs_text, Wrote, most}
+use Rattle.lines.specs.declared.Text.{Text}
+use Rattle.lines.specs.Put.{structs_text, Wrote, most}
+use Rattle.lines.specs.Appends.{Appends}
 use Rattle.lines.proofs.Parts.{take_twice}
 
 module _ (a : Answer) where
   -- by the verdict
-  by : List Diagnostic → Verdict → List ℕ
-  by ds v = elim v as (λ _. List ℕ) [ Accepted ↦ accepted_text a ds | Refused number position ↦ refused_text number position ]
+  by : List Diagnostic → Result ⊤ Refusal → List ℕ
+  by ds v = elim v as (λ _. List ℕ) [ Ok _ ↦ accepted_text a ds | Err r ↦ refused_text (fault_number r.fault) r.position ]
 
-  text-by : (ds : List Diagnostic) {v : Verdict} → a.verdict ≡ v → by ds v ≡ text_of a ds
+  text-by : (ds : List Diagnostic) {v : Result ⊤ Refusal} → a.verdict ≡ v → by ds v ≡ text_of a ds
   unfolding text_of by
   text-by ds e = ap (by ds) (sym e)
 
-  pub text-refused : (ds : List Diagnostic) {number position : ℕ} → a.verdict ≡ Refused number position → refused_text number position ≡ text_of a ds
+  pub text-refused : (ds : List Diagnostic) {r : Refusal} → a.verdict ≡ Err r → refused_text (fault_number r.fault) r.position ≡ text_of a ds
   unfolding by
   text-refused ds e = text-by ds e
 
@@ -45,7 +47,7 @@ module _ (a : Answer) where
       line "accepted" (a.total ∷ []) ++ line "order" (take a.structs a.order) ++ line "tiers" (tiers_along a.tiers (take a.structs a.order))
       ++ line "improper" (members_to name_count (get_or a.sets 7 (name_set empty)).words) ++ flat_map record_line ds
 
-  pub text-accepted : (k : ℕ) (list : List Diagnostic) {r : ℕ} → a.verdict ≡ Accepted → r ≡ min k printed
+  pub text-accepted : (k : ℕ) (list : List Diagnostic) {r : ℕ} → a.verdict ≡ Ok tt → r ≡ min k printed
       → accepted_text a (take r list) ≡ text_of a (take k list)
   unfolding by accepted_text lines
   text-accepted k list e y = ap lines (ap (λ (j : ℕ). take printed (take j list)) y ∙ take_twice list k printed) ∙ text-by (take k list) e
@@ -55,20 +57,22 @@ module _ (a : Answer) where
   unfolding text_of by accepted_text lines
   text-shown ds es e = go a.verdict
     where
-      go : (v : Verdict) → by ds v ≡ by es v
-      go Accepted = ap lines e
-      go (Refused number position) = refl
+      go : (v : Result ⊤ Refusal) → by ds v ≡ by es v
+      go (Ok tt) = ap lines e
+      go (Err r) = refl
 
 -- ## What `write` leaves
 
 module _ {text out : List ℕ} where
-  pub wrote : {out' : List ℕ} {r : ℕ} → most ≤ length out → r ≤ most → Put out 0 text r out' → Wrote text out r out'
-  wrote {r = r} h w p =
-      let size : 0 + length text ≡ r = sym p.reached in
+  pub wrote : {t t' : Text} {out' : List ℕ} → most ≤ length out → Appends t most text t' → t.out.now ≡ out → t.len ≡ 0 → out' ≡ t'.out.now
+      → Wrote text out t'.len out'
+  wrote {t} {t'} h p from fresh to =
+      let size : 0 + length text ≡ t'.len = omega (arith, p.reached) in
+      let front : sets t.out.now t.len text ≡ sets out 0 text = rw (from, fresh) in
       record {
-        bytes = λ _. p.stored.stored ∙ sets-eq text out 0 (omega arith) ∙ ap (λ (k : ℕ). text ++ drop k out) size;
+        bytes = λ _. to ∙ p.stored.stored ∙ front ∙ sets-eq text out 0 (omega arith) ∙ ap (λ (k : ℕ). text ++ drop k out) size;
         size = λ _. omega arith;
-        within = w;
+        within = omega (arith, p.few);
         untouched = λ g. absurd (omega arith);
       }
 

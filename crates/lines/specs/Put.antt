@@ -1,14 +1,8 @@
--- What the functions that write text promise of the buffer.
+-- What `write` promises of the buffer.
 -- Assumes nothing: these are definitions.
-use Rattle.std.specs.Prelude.{ℕ, ◌+◌, ◌≤◌, ◌<◌, ◌≡◌, List, ◌++◌, length, take, drop}
+use Rattle.std.specs.Prelude.{ℕ, ◌≤◌, ◌<◌, ◌≡◌, List, ◌++◌, length, take, drop}
 use Rattle.rules.specs.declared.Answer.{Answer}
 use Rattle.rules.specs.Text.{line, tiers_along}
-use Rattle.errors.specs.Bytes.{Stored}
-
--- `after` is `before` with the bytes from place `at` on, and `next` is the place after them
-pub record Put (before : List ℕ) (at : ℕ) (bytes : List ℕ) (next : ℕ) (after : List ℕ) : Type 0 where
-  pub stored : Stored before at (length bytes) bytes after
-  pub reached : next ≡ at + length bytes
 
 -- the lines of an answer that tell of its structs
 unfoldable pub structs_text : Answer → List ℕ

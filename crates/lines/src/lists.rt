@@ -1,91 +1,66 @@
 // Words, and numbers one after another.
-ghost use Rattle.std.specs.Prelude.{◌≡◌, ◌+◌, ◌*◌, ◌≤◌, length, get_or, take};
+ghost use Rattle.std.specs.Prelude.{◌≡◌, ◌*◌, length, get_or};
 ghost use mathlib.Core.List.{[], ◌∷◌, flat_map};
 ghost use Rattle.rules.specs.Numbers.{name_count};
 ghost use Rattle.rules.specs.Base.{if'◌then◌else◌};
 ghost use Rattle.rules.specs.Text.{spaced, tiers_along, members_to};
-ghost use Rattle.lines.specs.Put.{Put};
+ghost use Rattle.lines.specs.Appends.{Appends, Room};
 
-use crate::numbers::{put_byte, put1};
+use crate::Text;
 use rules::NameSet;
-
-pub fn put_word(out: &mut [u8], at: usize, word: &[u8]) -> usize
-    requires { at + length word.now ≤ length out.old }
-    ensures put { Put out.old at word.now result out.new }
-    ensures upper_bound { result ≤ at + length word.now }
-{
-    let mut k = 0;
-    let mut next = at;
-    while k < word.len() {
-        next = put1(out, next, word[k]);
-        k += 1;
-    }
-    next
-}
-
-// The first n entries.
-pub fn put_list(out: &mut [u8], at: usize, list: &[u8], n: usize) -> usize
-    requires { (n ≤ length list.now) × (at + 4 * n ≤ length out.old) }
-    ensures put { Put out.old at (flat_map spaced (take n list.now)) result out.new }
-    ensures upper_bound { result ≤ at + 4 * n }
-{
-    let mut k = 0;
-    let mut next = at;
-    while k < n {
-        next = put_byte(out, next, list[k]);
-        k += 1;
-    }
-    next
-}
 
 // Entry k of a list, 0 past its end.
 fn entry(list: &[u8], k: u8) -> u8
     ensures { result ≡ get_or list.now k 0 }
 {
-    let at = k as usize;
-    if at < list.len() {
-        return list[at];
-    }
-    0
+    list.get(k as usize).copied().unwrap_or(0)
 }
 
-// The tiers of the first n items of the order.
-pub fn put_along(out: &mut [u8], at: usize, order: &[u8], tiers: &[u8], n: usize) -> usize
-    requires { (n ≤ length order.now) × (at + 4 * n ≤ length out.old) }
-    ensures put { Put out.old at (flat_map spaced (tiers_along tiers.now (take n order.now))) result out.new }
-    ensures upper_bound { result ≤ at + 4 * n }
-{
-    let mut k = 0;
-    let mut next = at;
-    while k < n {
-        next = put_byte(out, next, entry(tiers, order[k]));
-        k += 1;
+impl Text<'_> {
+    pub fn put_word(&mut self, word: &[u8])
+        requires { Room self.old (length word.now) }
+        ensures { Appends self.old (length word.now) word.now self.new }
+    {
+        let end = self.len + word.len();
+        self.out[self.len..end].copy_from_slice(word);
+        self.len = end;
     }
-    next
-}
 
-pub fn put_if(out: &mut [u8], at: usize, yes: bool, n: u8) -> usize
-    requires { at + 4 ≤ length out.old }
-    ensures put { Put out.old at (flat_map spaced (if' yes then n ∷ [] else [])) result out.new }
-    ensures upper_bound { result ≤ at + 4 }
-{
-    if yes {
-        return put_byte(out, at, n);
+    pub fn put_list(&mut self, list: &[u8])
+        requires { Room self.old (4 * length list.now) }
+        ensures { Appends self.old (4 * length list.now) (flat_map spaced list.now) self.new }
+    {
+        for &n in list {
+            self.put_number::<3>(n as u64);
+        }
     }
-    at
-}
 
-// The names that a set has.
-pub fn put_members(out: &mut [u8], at: usize, set: NameSet) -> usize
-    requires { at + 1024 ≤ length out.old }
-    ensures put { Put out.old at (flat_map spaced (members_to name_count set.words)) result out.new }
-    ensures upper_bound { result ≤ at + 1024 }
-{
-    let mut k: u16 = 0;
-    let mut next = at;
-    while k < 256 {
-        next = put_if(out, next, names::contains(set, k), k as u8);
-        k += 1;
+    // The tiers of the items of the order.
+    pub fn put_along(&mut self, order: &[u8], tiers: &[u8])
+        requires { Room self.old (4 * length order.now) }
+        ensures { Appends self.old (4 * length order.now) (flat_map spaced (tiers_along tiers.now order.now)) self.new }
+    {
+        for &i in order {
+            self.put_number::<3>(entry(tiers, i) as u64);
+        }
     }
-    next
+
+    pub fn put_if(&mut self, yes: bool, n: u8)
+        requires { Room self.old 4 }
+        ensures { Appends self.old 4 (flat_map spaced (if' yes then n ∷ [] else [])) self.new }
+    {
+        if yes {
+            self.put_number::<3>(n as u64);
+        }
+    }
+
+    // The names that a set has.
+    pub fn put_members(&mut self, set: NameSet)
+        requires { Room self.old 1024 }
+        ensures { Appends self.old 1024 (flat_map spaced (members_to name_count set.words)) self.new }
+    {
+        for k in 0..256 {
+            self.put_if(names::contains(set, k), k as u8);
+        }
+    }
 }

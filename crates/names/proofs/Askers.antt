@@ -1,13 +1,10 @@
 -- The tests of a name that are made of others, answer by answer as the code asks them.
 -- Assumes nothing.
-use Prim.Native.Nat.{ℕ, zero, suc, ◌-◌}
+use Prim.Native.Nat.{ℕ}
 use mathlib.Core.Path.{◌≡◌, refl, sym, ap, ◌∙◌}
-use mathlib.Core.Logic.{◌≢◌}
 use mathlib.Core.Bool.{Bool, true, false, not}
-use native.Mathlib.Omega.{arith}
 use Rattle.rules.specs.Trivial.{extern_in}
 use Rattle.rules.specs.Types.{Types, is_struct, is_enum, is_cxx, is_alias, is_extern, is_opaque}
-use Rattle.names.specs.Known.{item_in}
 
 module _ (t : Types) (n : ℕ) {c : Bool} (is-cxx : c ≡ is_cxx t n) where
   pub extern-not-cxx : c ≡ false → false ≡ is_extern t n
@@ -31,8 +28,3 @@ module _ (t : Types) (n : ℕ) {x : Bool} (is-extern : x ≡ is_extern t n) wher
   pub opaque-alias : x ≡ true → {a : Bool} → a ≡ is_alias t n → not a ≡ is_opaque t n
   unfolding is_opaque
   opaque-alias h e = rw (sym is-extern ∙ h) (ap not e)
-
--- an entry that is not 0 means the item before it
-pub item-before : (x : ℕ) → x ≢ 0 → x - 1 ≡ item_in x
-item-before zero h = absurd (h refl)
-item-before (suc i) h = omega arith

@@ -8,12 +8,13 @@ use native.Mathlib.Omega.{arith}
 use native.Mathlib.Nat.{zero-div, mod-eq_of_lt}
 use native.Mathlib.Numerals.{add-one}
 use lib.Bits.{bit_or}
-use lib.Count.{ones_in, ones, ones_step, ones-le}
+use lib.Count.{ones_in, ones, ones_step}
 use lib.Pow.{pow-lt, shr_lt}
 use lib.ListN.{length, get_or, get_or-eq_default}
 use lib.Seq.{set_out}
+use Rattle.std.specs.List.{sum_by}
+use Rattle.std.proofs.lemmas.List.Sums.{sum_by-cons}
 use Rattle.rules.specs.Names.{Words, ◌∋◌, add, bit_of, size}
-use Rattle.names.specs.Ones.{Ones}
 
 -- ## Bits of a word
 
@@ -23,14 +24,11 @@ word-one k l = ap (λ n. n % 18446744073709551616) (one-mul (2 ^ k)) ∙ mod-eq_
     one-mul : (n : ℕ) → 1 * n ≡ n
     one-mul n = omega arith
 
-ones-in : (k n : ℕ) → n < 2 ^ k → ones n ≡ ones_in k n
+pub ones-in : (k n : ℕ) → n < 2 ^ k → ones n ≡ ones_in k n
 unfolding ones ones_in
 ones-in zero zero h = refl
 ones-in zero (suc n) h = absurd (omega arith)
 ones-in (suc k) n h = ones_step n ∙ ap (λ m. n % 2 + m) (ones-in k (n / 2) (shr_lt k 1 (subst (λ (x : ℕ). n < 2 ^ x) (sym (add-one k)) h)))
-
-pub ones-of : (word : ℕ) → word < 18446744073709551616 → Ones word (ones word)
-ones-of word h = record { count = ones-in 64 word h; few = ones-le 64 word h }
 
 -- ## Words of a set
 
@@ -43,13 +41,18 @@ module _ (w : Words) (long : length w ≡ 4) (n : ℕ) where
   unfolding add
   insert-none h = sym (set_out w (n / 64) (bit_or (get_or w (n / 64) 0) (2 ^ (n % 64))) (omega arith))
 
-pub size-four :
-    (w : Words) → length w ≡ 4 → {a b c d : ℕ} → Ones (get_or w 0 0) a → Ones (get_or w 1 0) b → Ones (get_or w 2 0) c → Ones (get_or w 3 0) d
-    → a + b + c + d ≡ size w
+-- ## How many names a set has
+
+few-ones : (k w : ℕ) → ones_in k w ≤ k
+unfolding ones_in
+few-ones zero w = omega arith
+few-ones (suc k) w = omega (arith, few-ones k (w / 2))
+
+pub size-is : (w : Words) → sum_by (ones_in 64) w ≡ size w
 unfolding size
-size-four (w ∷ x ∷ y ∷ z ∷ []) l a b c d = omega (arith, a.count, b.count, c.count, d.count)
-size-four [] l a b c d = absurd (omega arith)
-size-four (w ∷ []) l a b c d = absurd (omega arith)
-size-four (w ∷ x ∷ []) l a b c d = absurd (omega arith)
-size-four (w ∷ x ∷ y ∷ []) l a b c d = absurd (omega arith)
-size-four (w ∷ x ∷ y ∷ z ∷ v ∷ ws) l a b c d = absurd (omega arith)
+size-is [] = refl
+size-is (w ∷ ws) = sum_by-cons (ones_in 64) w ws ∙ ap (λ n. ones_in 64 w + n) (size-is ws)
+
+pub size-few : (w : Words) → sum_by (ones_in 64) w ≤ 64 * length w
+size-few [] = omega arith
+size-few (w ∷ ws) = omega (arith, sum_by-cons (ones_in 64) w ws, few-ones 64 w, size-few ws)

@@ -38,30 +38,21 @@ const NAMES: u16 = name::COUNT as u16;
 fn entry(names: &Names, k: usize, n: u16) -> u16
     ensures { result ≡ entry_at names.now k n }
 {
-    if COLUMNS <= k {
-        return 0;
+    if k < COLUMNS && n < NAMES {
+        names[name::COUNT * k + n as usize]
+    } else {
+        0
     }
-    if NAMES <= n {
-        return 0;
-    }
-    names[name::COUNT * k + n as usize]
 }
 
 // Name n gets the entry x in column k, if so.
 pub fn enter_if(names: &mut Names, k: usize, yes: bool, n: u16, x: u16)
     ensures { names.new ≡ entered names.old k yes n x }
 {
-    if !yes {
-        return;
+    if yes && k < COLUMNS && n < NAMES {
+        let at = name::COUNT * k + n as usize;
+        names[at] = x;
     }
-    if COLUMNS <= k {
-        return;
-    }
-    if NAMES <= n {
-        return;
-    }
-    let at = name::COUNT * k + n as usize;
-    names[at] = x;
 }
 
 // The item that an entry means, or none.
@@ -79,12 +70,9 @@ pub fn set_of(names: &Names, k: usize) -> NameSet
     ensures { result.words ≡ names_in names.now k }
 {
     let mut set = empty();
-    let mut n: u16 = 0;
-    while n < NAMES {
-        let name = n;
-        n += 1;
-        if 0 < entry(names, k, name) {
-            set = insert(set, name);
+    for n in 0..NAMES {
+        if 0 < entry(names, k, n) {
+            set = insert(set, n);
         }
     }
     set
@@ -145,23 +133,14 @@ pub fn is_declared(names: &Names, n: u16) -> bool
 pub fn is_extern(names: &Names, n: u16) -> bool
     ensures { (s : List ℕ) → result ≡ is_extern (tabled s names.now) n }
 {
-    if !is_cxx(names, n) {
-        return false;
-    }
-    if is_struct(names, n) {
-        return false;
-    }
-    !is_enum(names, n)
+    is_cxx(names, n) && !is_struct(names, n) && !is_enum(names, n)
 }
 
 // An extern C++ type that is no alias.
 pub fn is_opaque(names: &Names, n: u16) -> bool
     ensures { (s : List ℕ) → result ≡ is_opaque (tabled s names.now) n }
 {
-    if !is_extern(names, n) {
-        return false;
-    }
-    !is_alias(names, n)
+    is_extern(names, n) && !is_alias(names, n)
 }
 
 // The name's last struct, last untrusted CxxType, and last item that is a type; or none.

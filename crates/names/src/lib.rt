@@ -3,8 +3,8 @@
 
 ghost use Rattle.std.specs.Prelude.{◌≡◌, ◌^◌, ◌%◌, eqb};
 ghost use Rattle.std.specs.Int.Bits.{bit_or};
+ghost use Rattle.std.specs.Int.Count.{ones_in};
 ghost use Rattle.rules.specs.Names.{◌∋◌, add, bit_of, empty as empty_words, size as size_of};
-ghost use Rattle.names.specs.Ones.{Ones};
 
 use rules::NameSet;
 
@@ -27,43 +27,35 @@ fn has_bit(word: u64, n: u16) -> bool
 pub fn with_bit(word: u64, n: u16) -> u64
     ensures { result ≡ bit_or word (2 ^ (n % 64)) }
 {
-    let one: u64 = 1;
-    word | (one << (n % 64))
+    word | (1 << (n % 64))
 }
 
 pub fn contains(set: NameSet, n: u16) -> bool
     ensures { result ≡ (set.words ∋ n) }
 {
-    let words = set.words;
-    let q = (n as usize) / 64;
-    if q < 4 {
-        return has_bit(words[q], n);
-    }
-    false
+    let q = n as usize / 64;
+    q < 4 && has_bit(set.words[q], n)
 }
 
-pub fn insert(set: NameSet, n: u16) -> NameSet
+pub fn insert(mut set: NameSet, n: u16) -> NameSet
     ensures { result.words ≡ add set.words n }
 {
-    let mut words = set.words;
-    let q = (n as usize) / 64;
+    let q = n as usize / 64;
     if q < 4 {
-        words[q] = with_bit(words[q], n);
-        return NameSet { words };
+        set.words[q] = with_bit(set.words[q], n);
     }
     set
 }
 
 // How many bits of a word are set.
 fn ones(word: u64) -> u16
-    ensures { Ones word result }
+    ensures { result ≡ ones_in 64 word }
 {
-    u64::count_ones(word) as u16
+    word.count_ones() as u16
 }
 
 pub fn size(set: NameSet) -> u16
     ensures { result ≡ size_of set.words }
 {
-    let w = set.words;
-    ones(w[0]) + ones(w[1]) + ones(w[2]) + ones(w[3])
+    set.words.iter().map(|&word| ones(word)).sum()
 }

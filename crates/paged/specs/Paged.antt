@@ -1,15 +1,10 @@
 -- What the call with a list of its own promises: the one call's promise, on a list of blank records.
 -- Assumes nothing: these are definitions.
-use Rattle.std.specs.Prelude.{◌≡◌, ℕ, List, replicate}
+use Rattle.std.specs.Prelude.{ℕ, List, replicate}
 use Rattle.rules.specs.Numbers.{page_size}
 use Rattle.rules.specs.declared.Diagnostic.{Diagnostic}
-use Rattle.rules.specs.declared.Answer.{Answer}
 use Rattle.bridge.specs.Call.{Called}
 use Rattle.paged.specs.declared.Page.{Page}
-
-pub record Packed (a : Answer) (l : List Diagnostic) (r : Page) : Type 0 where
-  pub answer : r.answer ≡ a
-  pub list : r.list ≡ l
 
 -- the call, on a list of the record d
 pub record Paged (s scratch₀ : List ℕ) (d : Diagnostic) (r : Page) (scratch' : List ℕ) : Type 0 where

@@ -8,9 +8,9 @@ use native.Mathlib.Omega.{arith}
 use native.Mathlib.Decide.{dec_le}
 use lib.ListN.{length, take, drop, replicate}
 use lib.Seq.{sets, sets-eq, take_all, take-take, take-append_seam, length-take-le, length-sets}
+use Rattle.std.specs.Prelude.{Ok, Err}
+use Rattle.rules.specs.Format.{Step}
 use Rattle.rules.specs.Numbers.{scratch_size}
-use Rattle.rules.specs.declared.Step.{Step}
-use Rattle.rules.specs.declared.Step.TheVariants.{Next, Refused}
 use Rattle.rules.specs.declared.Answer.{Answer}
 use Rattle.rules.specs.declared.Diagnostic.{Diagnostic}
 use Rattle.rules.specs.Report.{report}
@@ -52,8 +52,8 @@ answer-alone s scratch l m = sym (call-answer s scratch l) ∙ call-answer s scr
 -- a refusal shows no records, and an accepted sheet's are the report
 records-shown : (v : Step) (s : List ℕ) → text_of (answer_by v s) (records_by v s) ≡ text_of (answer_by v s) (report s)
 unfolding answer_by records_by refused text_of
-records-shown (Refused number position) s = refl
-records-shown (Next e) s = refl
+records-shown (Err r) s = refl
+records-shown (Ok e) s = refl
 
 module _ (s scratch : List ℕ) (zs list : List Diagnostic) (a : Answer) where
   page-is : printed ≤ length zs → a ≡ (call s scratch zs).answer → list ≡ (call s scratch zs).list

@@ -1,45 +1,34 @@
--- What `replay` asks of the port is what the call answers: a record's bytes (`recorded`), an answer and records behind it (`laid`), of the page that the call
+-- What `replay` asks of the port is what the call answers: an answer and records behind it (`laid`), of the page that the call
 -- fills (`told`); no room (`nothing`); and the collected rows, by what the reader says (`no_rows`, `some-rows`).
 -- Assumes nothing.
 use Prim.Native.Nat.{ℕ, ◌+◌, ◌≤◌, ◌<◌, min}
 use mathlib.Core.Path.{◌≡◌, refl, sym, ap, ◌∙◌, subst}
 use mathlib.Core.List.{List, [], ◌++◌, flat_map}
 use native.Mathlib.Omega.{arith}
-use lib.ListN.{length, get_or, take, replicate, length-take, length-replicate}
+use lib.ListN.{length, take, replicate, length-replicate}
 use lib.Seq.{sets}
 use borrow.Author.Tests.{le-leb}
+use Rattle.std.specs.Prelude.{Ok, Err}
 use Rattle.rules.specs.Numbers.{scratch_size, page_size, answer_size}
-use Rattle.rules.specs.declared.Step.TheVariants.{Next, Refused}
 use Rattle.rules.specs.declared.Answer.{Answer}
+use Rattle.rules.specs.declared.Refusal.{Refusal}
 use Rattle.rules.specs.declared.Diagnostic.{Diagnostic}
 use Rattle.rules.specs.Base.{if'◌then◌else◌}
 use Rattle.rules.specs.Answer.{read_with, call}
 use Rattle.laws.proofs.Base.Stores.{sets-append, sets-kept}
-use Rattle.rules.specs.Diagnostics.{letter_of, numbers_of}
 use Rattle.errors.specs.declared.Errors.{Errors}
-use Rattle.errors.specs.Bytes.{low8, Stored}
-use Rattle.errors.specs.Records.{record_with, record_bytes}
-use Rattle.errors.proofs.Stores.{sized, meant}
-use Rattle.types.specs.declared.Collected.{Collected}
+use Rattle.errors.specs.Bytes.{Stored}
+use Rattle.errors.specs.Records.{record_bytes}
 use Rattle.types.specs.Post.{Collects}
 use Rattle.bridge_core.specs.Run.{answer_of, records_of}
 use Rattle.bridge_core.proofs.RunLaws.{total-is, call-answer, call-list}
 use Rattle.layout.specs.Layout.{answer_bytes, layout_of, fitting, headed, Written}
-use Rattle.lines.specs.Put.{Put}
 use Rattle.replay.specs.Port.{Laid, Told, roomy, CollectedRows, rows_by, RowsOf}
 
 -- ## Records behind an answer
 
-pub recorded : {b b' : List ℕ} {at k a y : ℕ} (code : ℕ) (d : Diagnostic) → Stored b at 8 (low8 code) b' → low8 code ≡ record_with d.message k a y d.detail
-    → k ≡ letter_of d.place → a ≡ get_or (numbers_of d.place) 0 0 → y ≡ get_or (numbers_of d.place) 1 0 → Put b at (record_bytes d) (at + 8) b'
-unfolding record_bytes
-recorded {k = k} {a} {y} code d p e f g h =
-    let numbers : record_with d.message k a y d.detail ≡ record_bytes d = rw (f, g, h) in
-    let q = meant p (e ∙ numbers) in
-    record { stored = sized q (sym q.long); reached = omega (arith, q.long) }
-
-pub laid : {a : Answer} {ds : List Diagnostic} {n r q : ℕ} {out out₁ out₂ : List ℕ} → roomy ≤ length out → n ≤ page_size → Written a n out r out₁
-    → Put out₁ answer_size (flat_map record_bytes ds) q out₂ → Laid a ds n out out₂
+pub laid : {a : Answer} {ds : List Diagnostic} {n r m : ℕ} {out out₁ out₂ : List ℕ} → roomy ≤ length out → n ≤ page_size → Written a n out r out₁
+    → Stored out₁ answer_size m (flat_map record_bytes ds) out₂ → Laid a ds n out out₂
 unfolding headed fitting if'◌then◌else◌
 laid {a} {ds} {n} {out = out} {out₁} h k w p =
     let few : fitting n (length out) ≡ n = omega arith in
@@ -48,7 +37,7 @@ laid {a} {ds} {n} {out = out} {out₁} h k w p =
     let front : out₁ ≡ sets out 0 (answer_bytes a n) = rw (le-leb answer_size (length out) (omega arith), if'◌then◌else◌, few) at w.bytes in
     record {
       bytes =
-          p.stored.stored
+          p.stored
           ∙ ap (λ (l : List ℕ). sets l answer_size (flat_map record_bytes ds)) front
           ∙ ap (λ (m : ℕ). sets (sets out 0 (answer_bytes a n)) m (flat_map record_bytes ds)) behind
           ∙ sets-append out 0 (answer_bytes a n) (flat_map record_bytes ds);
@@ -58,7 +47,7 @@ laid {a} {ds} {n} {out = out} {out₁} h k w p =
 
 -- for a scratch of k bytes and a list of m places
 page : (k m : ℕ) (s sc out out' : List ℕ) (a : Answer) (zs list : List Diagnostic) (n : ℕ) → length sc ≡ k → length zs ≡ m → a ≡ (call s sc zs).answer
-    → list ≡ (call s sc zs).list → n ≡ min a.total m → Laid a (take n list) n out out'
+    → list ≡ (call s sc zs).list → n ≡ min a.total m → Laid a (take n list) (length (take n list)) out out'
     → out' ≡ sets out 0 (layout_of (call s sc []).answer (take m (records_of s k)))
 unfolding layout_of
 page k m s sc out out' a zs list n is-sc is-zs is-a is-list is-n l =
@@ -72,16 +61,14 @@ page k m s sc out out' a zs list n is-sc is-zs is-a is-list is-n l =
     ∙ ap (λ (j : ℕ). take j (sets zs 0 ds)) many
     ∙ sets-kept zs ds
     ∙ ap (λ (j : ℕ). take j ds) is-zs in
-    let count : n ≡ length (take m ds) = omega (arith, is-n, total, length-take m ds) in
     let same : a ≡ (call s sc []).answer = is-a ∙ sym (call-answer s sc zs) ∙ call-answer s sc [] in
     l.bytes
-    ∙ ap (λ (x : List Diagnostic). sets out 0 (answer_bytes a n ++ flat_map record_bytes x)) records
-    ∙ ap (λ (j : ℕ). sets out 0 (answer_bytes a j ++ flat_map record_bytes (take m ds))) count
+    ∙ ap (λ (x : List Diagnostic). sets out 0 (answer_bytes a (length x) ++ flat_map record_bytes x)) records
     ∙ ap (λ (x : Answer). sets out 0 (answer_bytes x (length (take m ds)) ++ flat_map record_bytes (take m ds))) same
 
 pub told : {s sc out out' : List ℕ} {a : Answer} (blank : Diagnostic) {list : List Diagnostic} {n : ℕ} → sc ≡ replicate scratch_size 0
     → a ≡ (call s sc (replicate page_size blank)).answer → list ≡ (call s sc (replicate page_size blank)).list → n ≡ min a.total page_size
-    → Laid a (take n list) n out out' → roomy ≤ length out → Told s out out'
+    → Laid a (take n list) (length (take n list)) out out' → roomy ≤ length out → Told s out out'
 told {s} {sc} {out} {out'} {a} blank {list} {n} is-sc is-a is-list is-n l h =
     let zeros : length sc ≡ scratch_size = ap length is-sc ∙ length-replicate {A = ℕ} scratch_size 0 in
     let blanks : length (replicate page_size blank) ≡ page_size = length-replicate page_size blank in
@@ -97,13 +84,13 @@ nothing h = record { bytes = λ g. absurd (omega arith); untouched = λ _. refl 
 
 -- ## The collected rows
 
-pub collected : {s sc sc' w out out' : List ℕ} {cx : Errors} {r : Collected} → Collects s sc sc' w out out' cx r → CollectedRows s r.rows sc'
-collected c = record { count = c.count; row = λ k h. c.rows k (omega (arith, c.count)) }
+pub collected : {s sc sc' w : List ℕ} {cx cx' : Errors} {rows : ℕ} → Collects s sc sc' w cx cx' rows → CollectedRows s rows sc'
+collected c = record { count = c.count; row = λ k h. c.pairs k (omega (arith, c.count)) }
 
-pub no_rows : {s scratch : List ℕ} {room number position : ℕ} → read_with room s ≡ Refused number position → RowsOf s room 0 scratch
+pub no_rows : {s scratch : List ℕ} {room : ℕ} {r : Refusal} → read_with room s ≡ Err r → RowsOf s room 0 scratch
 unfolding rows_by
 no_rows e = record { count = rw e refl; row = λ k h. absurd (omega arith) }
 
-pub some-rows : {s scratch : List ℕ} {room n e : ℕ} → read_with room s ≡ Next e → CollectedRows s n scratch → RowsOf s room n scratch
+pub some-rows : {s scratch : List ℕ} {room n e : ℕ} → read_with room s ≡ Ok e → CollectedRows s n scratch → RowsOf s room n scratch
 unfolding rows_by
 some-rows e c = record { count = rw e c.count; row = λ k h. rw e (c.row k h) }

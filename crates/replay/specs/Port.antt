@@ -3,12 +3,11 @@
 use Rattle.std.specs.Prelude.{ℕ, ◌+◌, ◌*◌, ◌≤◌, ◌<◌, ◌≡◌, length, get_or, take, replicate}
 use mathlib.Core.List.{List, [], ◌++◌, flat_map}
 use Rattle.std.proofs.lemmas.List.Edits.{sets}
+use Rattle.std.specs.Prelude.{Ok, Err}
 use Rattle.rules.specs.Numbers.{scratch_size, page_size, answer_size, record_size}
-use Rattle.rules.specs.declared.Step.{Step}
-use Rattle.rules.specs.declared.Step.TheVariants.{Next, Refused}
 use Rattle.rules.specs.declared.Answer.{Answer}
 use Rattle.rules.specs.declared.Diagnostic.{Diagnostic}
-use Rattle.rules.specs.Format.{pair_at}
+use Rattle.rules.specs.Format.{Step, pair_at}
 use Rattle.rules.specs.Types.{types_of}
 use Rattle.rules.specs.Answer.{read_with, call}
 use Rattle.bridge_core.specs.Run.{records_of}
@@ -37,8 +36,8 @@ pub record CollectedRows (s : List ℕ) (n : ℕ) (scratch : List ℕ) : Type 0 
 
 -- by what the reader says of the sheet: a refused one has none
 unfoldable pub rows_by : Step → List ℕ → List ℕ
-rows_by (Refused number position) s = []
-rows_by (Next _) s = (types_of s).all
+rows_by (Err r) s = []
+rows_by (Ok _) s = (types_of s).all
 
 pub record RowsOf (s : List ℕ) (room n : ℕ) (scratch : List ℕ) : Type 0 where
   pub count : n ≡ length (rows_by (read_with room s) s)

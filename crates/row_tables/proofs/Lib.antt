@@ -1,7 +1,10 @@
+pub mod Made
 pub mod Branches
+pub mod RowKinds
 pub mod AnyOf
 pub mod FaultLaws
 pub mod LeadLaws
 pub mod ListLaws
 pub mod NameLooks
 pub mod WantLaws
+pub mod Lowest

@@ -1,6 +1,7 @@
 -- What a table says of the entries of a list of rows, and which of them it tells apart.
 -- Assumes nothing: these are definitions.
-use Rattle.std.specs.Prelude.{ℕ, ◌+◌, ◌*◌, ◌≤◌, ◌<◌, List, Bool, not, eqb, length, get_or}
+use Rattle.std.specs.Prelude.{ℕ, ◌≡◌, ◌+◌, ◌*◌, ◌^◌, ◌≤◌, ◌<◌, List, Bool, not, eqb, length, get_or}
+use Rattle.std.specs.Int.Count.{count_trailing_zeros}
 use Rattle.rules.specs.Numbers.{most_rows, most_fields}
 use Rattle.rules.specs.View.{entry}
 
@@ -17,3 +18,9 @@ pub record ListIn (s : List ℕ) (at n : ℕ) : Type 0 where
 -- the table says of entry k something other than x
 abbrev pub unlike_at : (s table : List ℕ) (at x k : ℕ) → Bool
 unlike_at s d at x k = not (eqb (get_or d (entry s at k) 0) x)
+
+-- bit j is the lowest that is set in the word w, and without it the word is `rest`
+pub record LowestOut (w rest j : ℕ) : Type 0 where
+  pub some : 0 < w
+  pub lowest : j ≡ count_trailing_zeros 64 w
+  pub others : rest + 2 ^ j ≡ w

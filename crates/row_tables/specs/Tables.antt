@@ -1,7 +1,7 @@
 -- What each table over the rows says, by the types of a sheet; and what its entries mean.
 -- Assumes nothing: these are definitions.
-use Rattle.std.specs.Prelude.{ℕ, List, [], ◌∷◌, Bool, not, ◌&&◌, ltb, eqb}
-use Rattle.rules.specs.Numbers.{no_item, name_count, most_rows}
+use Rattle.std.specs.Prelude.{ℕ, List, [], ◌∷◌, Bool, not, ◌&&◌, ltb, eqb, min, Option, Some, None}
+use Rattle.rules.specs.Numbers.{no_item, most_rows}
 use Rattle.rules.specs.Numbers.{Ident, RustBox, RustVec, UniquePtr, SharedPtr, WeakPtr, CxxVector, Ref, Ptr, Str, SliceRef, Fn, Void}
 use Rattle.rules.specs.Base.{if'◌then◌else◌}
 use Rattle.rules.specs.Format.{Accepted}
@@ -10,7 +10,10 @@ use Rattle.rules.specs.Types.{Types, is_alias, is_required_trivial, is_extern, s
 use Rattle.rules.specs.Trivial.{insist}
 use Rattle.rules.specs.Improper.{Look, fine, bad, to, look_row}
 use Rattle.rules.specs.Check.{is_unsized, describe, find_lifetime_mut}
-use Rattle.laws.specs.RowTable.{TableOf, RowTable, read_at, Marks}
+use Rattle.laws.specs.RowTable.{RowTable, Marks}
+use Rattle.row_tables.specs.declared.looks.Look.{Look as Entry}
+use Rattle.row_tables.specs.declared.looks.Look.TheVariants.{Name, Improper, Proper}
+use Rattle.row_tables.specs.Upward.{entry_or, SaysOf}
 
 -- ## Sizes
 
@@ -80,26 +83,28 @@ FaultRows s t u = RowTable s (fault s t) u
 
 -- ## Looks
 
--- below 256 the name whose last struct decides, 256 improper, else proper
-unfoldable pub look_of : ℕ → Look
-look_of c = if' ltb c name_count then to c else if' eqb c name_count then bad else fine
+abbrev pub look_of : Entry → Look
+look_of (Name n) = to n
+look_of Improper = bad
+look_of Proper = fine
 
-abbrev pub look_in : (table : List ℕ) (r : ℕ) → Look
-look_in u r = look_of (read_at u r)
+abbrev pub look_in : (table : List Entry) (r : ℕ) → Look
+look_in u r = look_of (entry_or Proper u r)
 
-abbrev pub LookRows : (s : List ℕ) (t : Types) (table : List ℕ) → Type 0
-LookRows s t u = TableOf look_of (rows s) (look_row s t (rows s)) u
+abbrev pub LookRows : (s : List ℕ) (t : Types) (table : List Entry) → Type 0
+LookRows s t u = SaysOf look_of (rows s) (look_row s t (rows s)) u
 
 -- ## Reasons
 
--- a name as a list: none from 256 on
-unfoldable pub one_of : ℕ → List ℕ
-one_of x = if' ltb x name_count then x ∷ [] else []
+-- a name, or none, as a list
+abbrev pub one_of : Option ℕ → List ℕ
+one_of (Some n) = n ∷ []
+one_of None = []
 
 -- so many rows have an entry: all of an accepted sheet
 abbrev pub few_rows : List ℕ → ℕ
-few_rows s = if' ltb (rows s) most_rows then rows s else most_rows
+few_rows s = min (rows s) most_rows
 
 -- the name to which each row gives a reason
-abbrev pub WantRows : (s : List ℕ) (t : Types) (table : List ℕ) → Type 0
-WantRows s t w = TableOf one_of (few_rows s) (insist s (is_extern t)) w
+abbrev pub WantRows : (s : List ℕ) (t : Types) (table : List (Option ℕ)) → Type 0
+WantRows s t w = SaysOf one_of (few_rows s) (insist s (is_extern t)) w

@@ -5,9 +5,10 @@ ghost use Rattle.names.specs.Known.{tabled};
 ghost use Rattle.row_tables.specs.Tables.{WithSizes, fault_by, FaultRows};
 
 use crate::sizes::{describe, is_unsized};
+use crate::upward::{entry_or, upward};
 use names::known::Names;
 use rules::limit::ROWS;
-use rules::row;
+use rules::row::RowKind;
 use sheet::items::rows;
 use sheet::rows::is;
 
@@ -17,7 +18,7 @@ pub const FN_FAULT: u8 = 255;
 fn fault(s: &[u8], names: &Names, sizes: &[u8; ROWS], r: u16) -> u8
     ensures { result ≡ fault_by s.now (tabled s.now names.now) (marked sizes.now) r }
 {
-    if is(s, row::FN, r) {
+    if is(s, RowKind::Fn, r) {
         return FN_FAULT;
     }
     if is_unsized(sizes, r) {
@@ -31,32 +32,12 @@ pub fn faults(s: &[u8], names: &Names, sizes: &[u8; ROWS]) -> [u8; ROWS]
     requires { WithSizes s.now (tabled s.now names.now) sizes.now }
     ensures { FaultRows s.now (tabled s.now names.now) result }
 {
-    let n = rows(s);
-    let mut table = [0u8; ROWS];
-    let mut r: u16 = 0;
-    while r < n {
-        let at = r;
-        r += 1;
-        let x = fault(s, names, sizes, at);
-        table[at as usize] = x;
-    }
-    table
-}
-
-// A byte as a pair.
-fn wide(x: u8) -> u16
-    ensures { result ≡ x }
-{
-    x as u16
+    upward(rows(s), 0, |_, r| fault(s, names, sizes, r))
 }
 
 // Row r's fault, by the table; what has no entry has none.
 pub fn fault_at(table: &[u8; ROWS], r: u16) -> u16
     ensures { result ≡ read_at table.now r }
 {
-    let at = r as usize;
-    if at < ROWS {
-        return wide(table[at]);
-    }
-    0
+    entry_or(table, r, 0) as u16
 }

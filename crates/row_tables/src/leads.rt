@@ -8,10 +8,12 @@ ghost use Rattle.laws.specs.RowTable.{RowTable};
 ghost use Rattle.names.specs.Known.{tabled, OwnNames};
 ghost use Rattle.row_tables.specs.Tables.{item_byte, lead_byte};
 
+use crate::upward::upward;
 use names::known;
 use names::known::Names;
+use rules::item;
 use rules::limit::ROWS;
-use rules::{item, row};
+use rules::row::RowKind;
 use sheet::items::rows;
 use sheet::rows::{is, row_name};
 
@@ -29,7 +31,7 @@ fn item_byte(i: u16) -> u8
 fn is_plain(s: &[u8], r: u16) -> bool
     ensures { result ≡ is s.now Ident r }
 {
-    is(s, row::IDENT, r)
+    is(s, RowKind::Ident, r)
 }
 
 // The item that row r leads to, or none.
@@ -47,14 +49,5 @@ pub fn leads(s: &[u8], names: &Names) -> [u8; ROWS]
     requires { OwnNames s.now names.now }
     ensures { RowTable s.now (plain_lead s.now (types_of s.now)) result }
 {
-    let n = rows(s);
-    let mut table = [item::NONE; ROWS];
-    let mut r: u16 = 0;
-    while r < n {
-        let at = r;
-        r += 1;
-        let x = lead(s, names, at);
-        table[at as usize] = x;
-    }
-    table
+    upward(rows(s), item::NONE, |_, r| lead(s, names, r))
 }

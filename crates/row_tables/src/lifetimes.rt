@@ -10,22 +10,25 @@ ghost use Rattle.laws.specs.RowSteps.{mut_step};
 ghost use Rattle.names.specs.Known.{tabled};
 ghost use Rattle.row_tables.specs.Tables.{LifetimeMutRows};
 
+use crate::leaf::is_leaf;
 use crate::marks::{mark, marked};
+use crate::upward::upward;
 use names::known;
 use names::known::Names;
 use rules::limit::ROWS;
+use rules::row::RowKind;
 use rules::{item, name, row};
 use sheet::items::{entry, flag1, lifetime_count, rows};
-use sheet::logic::{and, or};
-use sheet::rows::{fn_return, inner, is, kind, row_flags, row_name};
+use sheet::rows::{fn_return, inner, is, row_flags, row_name};
 use sheet::{offset, pair_at};
 
 // What `try_resolve` gives for name n has lifetimes, or it gives nothing.
+#[tactic(auto, unfolding(rules::specs::Check::may_have_lifetimes))]
 pub fn may_have_lifetimes(s: &[u8], names: &Names, n: u16) -> bool
     ensures { result ≡ may_have_lifetimes s.now (tabled s.now names.now) n }
 {
     let i = known::type_of(names, n);
-    or(i == item::NONE as u16, 0 < lifetime_count(s, i))
+    i == item::NONE as u16 || 0 < lifetime_count(s, i)
 }
 
 // Bool to RustString.
@@ -39,14 +42,14 @@ pub fn is_atom(n: u16) -> bool
 fn is_lifetime_mut(s: &[u8], names: &Names, r: u16) -> bool
     ensures { result ≡ is_lifetime_mut s.now (tabled s.now names.now) r }
 {
-    if or(is(s, row::REF, r), is(s, row::SLICE_REF, r)) {
+    if is(s, RowKind::Ref, r) | is(s, RowKind::SliceRef, r) {
         return flag1(row_flags(s, r));
     }
-    if !is(s, row::IDENT, r) {
+    if !is(s, RowKind::Ident, r) {
         return false;
     }
     let n = row_name(s, r);
-    and(!is_atom(n), may_have_lifetimes(s, names, n))
+    !is_atom(n) & may_have_lifetimes(s, names, n)
 }
 
 // A return row, where there is one.
@@ -65,11 +68,8 @@ pub fn any_marked_in(s: &[u8], table: &[u8; ROWS], at: u32) -> bool
 {
     let n = pair_at(s, at as usize);
     let mut found = false;
-    let mut j: u16 = 0;
-    while j < n {
-        let k = j;
-        j += 1;
-        found = or(found, marked(table, entry(s, at, k)));
+    for j in 0..n {
+        found |= marked(table, entry(s, at, j));
     }
     found
 }
@@ -78,41 +78,29 @@ pub fn any_marked_in(s: &[u8], table: &[u8; ROWS], at: u32) -> bool
 fn any_marked_shown(s: &[u8], table: &[u8; ROWS], r: u16) -> bool
     ensures { result ≡ any_of (marked table.now) (shown s.now r) }
 {
-    let k = kind(s, r);
-    if or(or(k == row::IDENT, k == row::STR), k == row::VOID) {
+    if is_leaf(s, r) {
         return false;
     }
-    if k == row::FN {
+    if is(s, RowKind::Fn, r) {
         let returned = is_marked_return(table, fn_return(s, r));
         let at = offset(s, r as u32) as u32 + 6;
-        return or(returned, any_marked_in(s, table, at));
+        return returned | any_marked_in(s, table, at);
     }
     marked(table, inner(s, r))
 }
 
 // Row r, by the table of smaller rows.
+#[tactic(auto, unfolding(laws::specs::RowSteps::mut_step))]
 fn is_mut_row(s: &[u8], names: &Names, table: &[u8; ROWS], r: u16) -> bool
     ensures { result ≡ mut_step s.now (tabled s.now names.now) (marked table.now) r }
 {
-    if is_lifetime_mut(s, names, r) {
-        return true;
-    }
-    any_marked_shown(s, table, r)
+    is_lifetime_mut(s, names, r) || any_marked_shown(s, table, r)
 }
 
-// The rows in which the visitor finds something. Rows refer to smaller rows, so one pass upward does it, and nothing is walked twice.
+// The rows in which the visitor finds something.
 pub fn lifetime_mut_rows(s: &[u8], names: &Names) -> [u8; ROWS]
     requires { Accepted s.now }
     ensures { LifetimeMutRows s.now (tabled s.now names.now) result }
 {
-    let n = rows(s);
-    let mut table = [0u8; ROWS];
-    let mut r: u16 = 0;
-    while r < n {
-        let at = r;
-        r += 1;
-        let yes = is_mut_row(s, names, &table, at);
-        table[at as usize] = mark(yes);
-    }
-    table
+    upward(rows(s), 0, |table, r| mark(is_mut_row(s, names, table, r)))
 }

@@ -3,22 +3,19 @@ ghost use Rattle.std.specs.Prelude.{◌≡◌};
 ghost use Rattle.rules.specs.Diagnostics.{bit};
 ghost use Rattle.laws.specs.RowTable.{marked};
 
+use crate::upward::entry_or;
 use rules::limit::ROWS;
 
 // Whether row r is marked; what has no entry is not.
 pub fn marked(table: &[u8; ROWS], r: u16) -> bool
     ensures { result ≡ marked table.now r }
 {
-    let at = r as usize;
-    if at < ROWS {
-        return table[at] == 1;
-    }
-    false
+    entry_or(table, r, 0) == 1
 }
 
 // What a table holds of a test.
 pub fn mark(yes: bool) -> u8
     ensures { result ≡ bit yes }
 {
-    if yes { 1 } else { 0 }
+    yes as u8
 }

@@ -1,5 +1,6 @@
 // Which rows have no size that C++ and Rust share, and what to call a type: `is_unsized` and `describe`.
 ghost use Rattle.std.specs.Prelude.{◌≡◌, List, ℕ};
+ghost use Rattle.rules.specs.Kinds.{row_number};
 ghost use Rattle.rules.specs.Format.{Accepted};
 ghost use Rattle.rules.specs.Check.{is_unsized_ident, describe_ident, describe};
 ghost use Rattle.laws.specs.RowTable.{marked};
@@ -8,72 +9,58 @@ ghost use Rattle.names.specs.Known.{tabled};
 ghost use Rattle.row_tables.specs.Tables.{cxx_unsized, describe_other, UnsizedRows};
 
 use crate::marks::{mark, marked};
+use crate::upward::upward;
 use names::known;
 use names::known::Names;
 use rules::limit::ROWS;
-use rules::{name, row};
+use rules::name;
+use rules::row::RowKind;
 use sheet::items::rows;
-use sheet::logic::{and, or, pick};
 use sheet::rows::{inner, is, kind, row_name};
 
 // An extern C++ type, and no alias that must be trivial.
 fn is_cxx_unsized(names: &Names, n: u16) -> bool
     ensures { (s : List ℕ) → result ≡ cxx_unsized (tabled s names.now) n }
 {
-    let trivial = and(
-        known::is_alias(names, n),
-        known::is_required_trivial(names, n),
-    );
-    and(known::is_extern(names, n), !trivial)
+    let trivial = known::is_alias(names, n) && known::is_required_trivial(names, n);
+    known::is_extern(names, n) && !trivial
 }
 
+#[tactic(auto, unfolding(rules::specs::Check::is_unsized_ident))]
 fn is_unsized_ident(names: &Names, n: u16) -> bool
     ensures { (s : List ℕ) → result ≡ is_unsized_ident s (tabled s names.now) n }
 {
-    or(
-        or(n == name::CXX_STRING, is_cxx_unsized(names, n)),
-        known::is_rust(names, n),
-    )
+    n == name::CXX_STRING || is_cxx_unsized(names, n) || known::is_rust(names, n)
 }
 
 // Row r, which is no array.
 fn is_unsized_leaf(s: &[u8], names: &Names, r: u16) -> bool
     ensures { result ≡ unsized_leaf s.now (tabled s.now names.now) r }
 {
-    if is(s, row::IDENT, r) {
+    if is(s, RowKind::Ident, r) {
         return is_unsized_ident(names, row_name(s, r));
     }
-    or(
-        or(is(s, row::CXX_VECTOR, r), is(s, row::FN, r)),
-        is(s, row::VOID, r),
-    )
+    is(s, RowKind::CxxVector, r) | is(s, RowKind::Fn, r) | is(s, RowKind::Void, r)
 }
 
 // Row r, by the table of smaller rows: an array is what its element is.
 fn is_unsized_row(s: &[u8], names: &Names, table: &[u8; ROWS], r: u16) -> bool
     ensures { result ≡ unsized_step s.now (tabled s.now names.now) (marked table.now) r }
 {
-    if is(s, row::ARRAY, r) {
+    if is(s, RowKind::Array, r) {
         return marked(table, inner(s, r));
     }
     is_unsized_leaf(s, names, r)
 }
 
-// The rows that are unsized. Rows refer to smaller rows, so one pass upward does it.
+// The rows that are unsized.
 pub fn unsized_rows(s: &[u8], names: &Names) -> [u8; ROWS]
     requires { Accepted s.now }
     ensures { UnsizedRows s.now (tabled s.now names.now) result }
 {
-    let n = rows(s);
-    let mut table = [0u8; ROWS];
-    let mut r: u16 = 0;
-    while r < n {
-        let at = r;
-        r += 1;
-        let yes = is_unsized_row(s, names, &table, at);
-        table[at as usize] = mark(yes);
-    }
-    table
+    upward(rows(s), 0, |table, r| {
+        mark(is_unsized_row(s, names, table, r))
+    })
 }
 
 // Whether row r is unsized, as that table has it.
@@ -86,39 +73,54 @@ pub fn is_unsized(sizes: &[u8; ROWS], r: u16) -> bool
 fn describe_ident(names: &Names, n: u16) -> u16
     ensures { (s : List ℕ) → result ≡ describe_ident s (tabled s names.now) n }
 {
-    let d = pick(n == name::CHAR, 7, 8);
-    let d = pick(n == name::CXX_STRING, 6, d);
-    let d = pick(known::is_rust(names, n), 5, d);
-    let d = pick(known::is_cxx(names, n), 4, d);
-    let d = pick(known::is_alias(names, n), 3, d);
-    let d = pick(known::is_enum(names, n), 2, d);
-    pick(known::is_struct(names, n), 1, d)
+    if known::is_struct(names, n) {
+        1
+    } else if known::is_enum(names, n) {
+        2
+    } else if known::is_alias(names, n) {
+        3
+    } else if known::is_cxx(names, n) {
+        4
+    } else if known::is_rust(names, n) {
+        5
+    } else if n == name::CXX_STRING {
+        6
+    } else if n == name::CHAR {
+        7
+    } else {
+        8
+    }
 }
 
-fn describe_other(k: u16) -> u16
-    ensures { result ≡ describe_other k }
+fn describe_other(k: RowKind) -> u16
+    ensures { result ≡ describe_other (row_number k) }
 {
-    let d = pick(k == row::VOID, 20, 21);
-    let d = pick(k == row::FN, 19, d);
-    let d = pick(k == row::SLICE_REF, 18, d);
-    let d = pick(k == row::CXX_VECTOR, 17, d);
-    let d = pick(k == row::STR, 16, d);
-    let d = pick(k == row::PTR, 15, d);
-    let d = pick(k == row::REF, 14, d);
-    let d = pick(k == row::WEAK_PTR, 13, d);
-    let d = pick(k == row::SHARED_PTR, 12, d);
-    let d = pick(k == row::UNIQUE_PTR, 11, d);
-    let d = pick(k == row::RUST_VEC, 10, d);
-    pick(k == row::RUST_BOX, 9, d)
+    match k {
+        RowKind::RustBox => 9,
+        RowKind::RustVec => 10,
+        RowKind::UniquePtr => 11,
+        RowKind::SharedPtr => 12,
+        RowKind::WeakPtr => 13,
+        RowKind::Ref => 14,
+        RowKind::Ptr => 15,
+        RowKind::Str => 16,
+        RowKind::CxxVector => 17,
+        RowKind::SliceRef => 18,
+        RowKind::Fn => 19,
+        RowKind::Void => 20,
+        RowKind::Ident | RowKind::Array => 21,
+    }
 }
 
 // The branch of check.rs's `describe`, 1 to 21 in text order.
 pub fn describe(s: &[u8], names: &Names, r: u16) -> u16
     ensures { result ≡ describe s.now (tabled s.now names.now) r }
 {
-    let k = kind(s, r);
-    if k == row::IDENT {
+    if is(s, RowKind::Ident, r) {
         return describe_ident(names, row_name(s, r));
     }
-    describe_other(k)
+    match kind(s, r) {
+        Some(k) => describe_other(k),
+        None => 21,
+    }
 }

@@ -2,14 +2,14 @@
 -- Assumes nothing: these are definitions.
 use Rattle.std.specs.Prelude.{ℕ, ◌-◌, List, [], ◌∷◌, ◌++◌, map, length, take, drop, replicate, leb}
 use Rattle.rules.specs.Numbers.{name_count, set_count, most_items, scratch_size}
-use Rattle.rules.specs.declared.Step.{Step}
-use Rattle.rules.specs.declared.Step.TheVariants.{Next, Refused}
-use Rattle.rules.specs.declared.Verdict.{Verdict}
-use Rattle.rules.specs.declared.Verdict.TheVariants as verdict
+use Rattle.std.specs.Prelude.{Result, Ok, Err}
+use Rattle.rules.specs.declared.Refusal.{Refusal}
+use Rattle.rules.specs.declared.Fault.{Fault}
+use Rattle.rules.specs.declared.Fault.TheVariants.{ShortScratch, LongSheet, ShortSheet, TooMany, Misplaced, BadValue, BadRow, EqualRow}
 use Rattle.rules.specs.declared.NameSet.{NameSet}
 use Rattle.rules.specs.declared.Answer.{Answer}
 use Rattle.rules.specs.declared.Diagnostic.{Diagnostic}
-use Rattle.rules.specs.Format.{check, after, read}
+use Rattle.rules.specs.Format.{Step, check, after, read}
 use Rattle.rules.specs.Names.{Words, empty, size}
 use Rattle.rules.specs.View.{items}
 use Rattle.rules.specs.Collect.{structs_to}
@@ -26,23 +26,25 @@ pub record Outcome : Type 0 where
   pub list : List Diagnostic
   pub scratch : List ℕ
 
--- the number of a verdict in docs/SHEET.md, 0 where the sheet is accepted, and its position
-abbrev pub number_of : Verdict → ℕ
-number_of verdict.Accepted = 0
-number_of (verdict.Refused number position) = number
+-- the number of a fault in docs/SHEET.md
+abbrev pub fault_number : Fault → ℕ
+fault_number ShortScratch = 1
+fault_number LongSheet = 2
+fault_number ShortSheet = 3
+fault_number TooMany = 4
+fault_number Misplaced = 5
+fault_number BadValue = 6
+fault_number BadRow = 7
+fault_number EqualRow = 8
 
-abbrev pub position_of : Verdict → ℕ
-position_of verdict.Accepted = 0
-position_of (verdict.Refused number position) = position
+-- the number of a verdict, or of what the reader says: 0 where there is no refusal; and its position
+abbrev pub number_of : {A : Type 0} → Result A Refusal → ℕ
+number_of (Ok _) = 0
+number_of (Err r) = fault_number r.fault
 
--- the same of what the reader says: a refusal's own, 0 and 0 where there is none
-abbrev pub number_for : Step → ℕ
-number_for (Next _) = 0
-number_for (Refused number position) = number
-
-abbrev pub position_for : Step → ℕ
-position_for (Next _) = 0
-position_for (Refused number position) = position
+abbrev pub position_of : {A : Type 0} → Result A Refusal → ℕ
+position_of (Ok _) = 0
+position_of (Err r) = r.position
 
 abbrev pub name_set : Words → NameSet
 name_set w = record { words = w }
@@ -50,10 +52,10 @@ name_set w = record { words = w }
 -- ## Refused
 
 -- empty sets, and 0 for all else
-unfoldable pub refused : (number position : ℕ) → Answer
-refused number position =
+unfoldable pub refused : Refusal → Answer
+refused r =
     record {
-      verdict = verdict.Refused number position;
+      verdict = Err r;
       sets = replicate set_count (name_set empty);
       sizes = replicate set_count 0;
       reasons = replicate name_count 0;
@@ -77,7 +79,7 @@ unfoldable pub accepted : List ℕ → Types → Out → (report : List Diagnost
 accepted s t walk report =
     let names = sets_of t (improper_of s t) in
     record {
-      verdict = verdict.Accepted;
+      verdict = Ok tt;
       sets = map name_set names;
       sizes = map size names;
       reasons = t.reasons;
@@ -91,7 +93,7 @@ accepted s t walk report =
 
 -- the scratch is asked first
 unfoldable pub read_with : (scratch : ℕ) → List ℕ → Step
-read_with n s = after (check (leb scratch_size n) 1 0 0) (λ _. read s)
+read_with n s = after (check (leb scratch_size n) ShortScratch 0 0) (λ _. read s)
 
 -- the first diagnostics that fit; the rest of the list is unchanged
 unfoldable pub filled : List Diagnostic → (report : List Diagnostic) → List Diagnostic
@@ -104,8 +106,8 @@ cleared scratch = replicate scratch_size 0 ++ drop scratch_size scratch
 unfoldable pub call : (sheet scratch : List ℕ) → List Diagnostic → Outcome
 call s scratch list =
     elim (read_with (length scratch) s) [
-      | Refused number position ↦ record { answer = refused number position; list = list; scratch = scratch }
-      | Next _ ↦
+      | Err r ↦ record { answer = refused r; list = list; scratch = scratch }
+      | Ok _ ↦
           let t = types_of s in
           let walk = walk_of s t in
           let report = report_of s t walk in

@@ -3,6 +3,8 @@
 use Rattle.std.specs.Prelude.{ℕ, ◌≡◌, refl, List, [], ◌∷◌, ◌++◌, map, replicate}
 use Rattle.rules.specs.declared.Place.TheVariants.{R, I, F, A, D}
 use Rattle.rules.specs.Diagnostics.{say, tell}
+use Rattle.rules.specs.declared.Fault.{Fault}
+use Rattle.rules.specs.declared.Fault.TheVariants.{ShortScratch, LongSheet, ShortSheet, TooMany, Misplaced, BadValue, BadRow, EqualRow}
 use Rattle.rules.specs.Answer.{Outcome, refused}
 use Rattle.rules.specs.Table.{Expected, outcome_of, blanks, scratch}
 use Rattle.rules.specs.Computed.{bytes, computed}
@@ -138,18 +140,22 @@ eleven = refl
 -- ## The refusal table's examples
 
 -- a refusal leaves list and scratch as they are
-unfoldable pub refused_of : (why at : ℕ) → Outcome
+unfoldable pub refused_of : (why : Fault) → (at : ℕ) → Outcome
 unfolding refused
-refused_of w p = record { answer = refused w p; list = blanks 8; scratch = scratch }
+refused_of w p = record { answer = refused (record { fault = w; position = p }); list = blanks 8; scratch = scratch }
 
-refusals : (computed (bytes (0 ∷ 0 ∷ [])) (replicate 4095 7) (blanks 8) ≡ record { answer = refused 1 0; list = blanks 8; scratch = replicate 4095 7 })
-    × (computed (replicate 32769 0) scratch (blanks 8) ≡ refused_of 2 0)
-    × (computed (0 ∷ 0 ∷ 0 ∷ []) scratch (blanks 8) ≡ refused_of 3 0)
-    × (outcome (1025 ∷ 0 ∷ []) ≡ refused_of 4 0)
-    × (outcome (0 ∷ 1 ∷ []) ≡ refused_of 5 0)
-    × (outcome (0 ∷ 1 ∷ 6 ∷ 99 ∷ []) ≡ refused_of 6 6)
-    × (outcome (1 ∷ 0 ∷ 6 ∷ 3 ∷ 0 ∷ []) ≡ refused_of 7 8)
-    × (outcome (2 ∷ 0 ∷ 8 ∷ 10 ∷ 9 ∷ 9 ∷ []) ≡ refused_of 8 10)
+refusals : (computed (bytes (0 ∷ 0 ∷ [])) (replicate 4095 7) (blanks 8) ≡ record {
+  answer = refused (record { fault = ShortScratch; position = 0 });
+  list = blanks 8;
+  scratch = replicate 4095 7;
+})
+    × (computed (replicate 32769 0) scratch (blanks 8) ≡ refused_of LongSheet 0)
+    × (computed (0 ∷ 0 ∷ 0 ∷ []) scratch (blanks 8) ≡ refused_of ShortSheet 0)
+    × (outcome (1025 ∷ 0 ∷ []) ≡ refused_of TooMany 0)
+    × (outcome (0 ∷ 1 ∷ []) ≡ refused_of Misplaced 0)
+    × (outcome (0 ∷ 1 ∷ 6 ∷ 99 ∷ []) ≡ refused_of BadValue 6)
+    × (outcome (1 ∷ 0 ∷ 6 ∷ 3 ∷ 0 ∷ []) ≡ refused_of BadRow 8)
+    × (outcome (2 ∷ 0 ∷ 8 ∷ 10 ∷ 9 ∷ 9 ∷ []) ≡ refused_of EqualRow 10)
 unfolding computed refused_of outcome
 refusals = (refl, refl, refl, refl, refl, refl, refl, refl)
 

@@ -1,23 +1,31 @@
 -- Which lists of bytes are bridge sheets, and which refusal any other list gets: docs/SHEET.md.
--- A step of the reader goes from a place to the place after what it read, or to a refusal with its number and position.
+-- A step of the reader goes from a place to the place after what it read, or to a refusal: what is wrong, and at which byte.
 -- Assumes nothing: these are definitions.
 use Rattle.std.specs.Prelude.{ℕ, zero, suc, ◌+◌, ◌-◌, ◌*◌, ◌≡◌, List, [], ◌∷◌, Bool, true, false, ◌&&◌, ◌||◌, length, get_or, ltb, leb, eqb}
 use Rattle.rules.specs.Numbers.{Ident, no_row, row_kind_count, item_kind_count, name_count, derive_kind_count, lifetime_name_count, most_bytes, most_rows}
 use Rattle.rules.specs.Numbers.{most_items, most_fields, most_args, most_derives, most_lifetimes, most_variants}
-use Rattle.rules.specs.declared.Step.{Step}
-use Rattle.rules.specs.declared.Step.TheVariants.{Next, Refused}
+use Rattle.std.specs.Prelude.{Result, Ok, Err}
+use Rattle.rules.specs.declared.Refusal.{Refusal}
+use Rattle.rules.specs.declared.Fault.{Fault}
+use Rattle.rules.specs.declared.Fault.TheVariants.{LongSheet, ShortSheet, TooMany, Misplaced, BadValue, BadRow, EqualRow}
 
 -- ## Steps
 
+abbrev pub Step : Type 0
+Step = Result ℕ Refusal
+
+abbrev pub refusal : Fault → (p : ℕ) → Step
+refusal w p = Err (record { fault = w; position = p })
+
 -- what follows a step that was not refused
 abbrev pub after : Step → (ℕ → Step) → Step
-after (Next p) k = k p
-after (Refused w p) k = Refused w p
+after (Ok p) k = k p
+after (Err r) k = Err r
 
 -- a refusal, unless the test holds
-abbrev pub check : Bool → (why p : ℕ) → ℕ → Step
-check true w p at = Next at
-check false w p at = Refused w p
+abbrev pub check : Bool → (why : Fault) → (p : ℕ) → ℕ → Step
+check true w p at = Ok at
+check false w p at = refusal w p
 
 -- one after the other
 abbrev pub ◌>>◌ : (ℕ → Step) → (ℕ → Step) → ℕ → Step
@@ -25,11 +33,11 @@ abbrev pub ◌>>◌ : (ℕ → Step) → (ℕ → Step) → ℕ → Step
 
 infixl 20 ◌>>◌
 abbrev pub end : ℕ → Step
-end at = Next at
+end at = Ok at
 
 -- n bodies, the first with number i
 unfoldable pub each : (ℕ → ℕ → Step) → (n i : ℕ) → ℕ → Step
-each body zero i at = Next at
+each body zero i at = Ok at
 each body (suc n) i at = after (body i at) (each body n (i + 1))
 
 module _ (s : List ℕ) where
@@ -42,32 +50,32 @@ module _ (s : List ℕ) where
   offset i = pair_at (4 + 2 * i)
 
   -- a pair that passes a test; what does not is refusal `why` at the pair
-  unfoldable pub one : (why : ℕ) → (ℕ → Bool) → ℕ → Step
+  unfoldable pub one : (why : Fault) → (ℕ → Bool) → ℕ → Step
   one w ok at =
-      after (check (leb (at + 2) (length s)) 5 (length s) at) (λ _.
-      after (check (ok (pair_at at)) w at at) (λ _. Next (at + 2)))
+      after (check (leb (at + 2) (length s)) Misplaced (length s) at) (λ _.
+      after (check (ok (pair_at at)) w at at) (λ _. Ok (at + 2)))
 
   -- a step, and then one that looks at the pair where the first began
   abbrev pub ◌>>=◌ : (ℕ → Step) → (ℕ → ℕ → Step) → ℕ → Step
   ◌>>=◌ m f at = after (m at) (f (pair_at at))
 
-  unfoldable pub limited : (why limit : ℕ) → ℕ → Step
+  unfoldable pub limited : (why : Fault) → (limit : ℕ) → ℕ → Step
   limited w n = one w (λ v. ltb v n)
 
   abbrev pub below : ℕ → ℕ → Step
-  below n = limited 6 n
+  below n = limited BadValue n
 
   abbrev pub row_below : ℕ → ℕ → Step
-  row_below n = limited 7 n
+  row_below n = limited BadRow n
 
   unfoldable pub or_none : ℕ → ℕ → Step
-  or_none n = one 7 (λ v. eqb v no_row || ltb v n)
+  or_none n = one BadRow (λ v. eqb v no_row || ltb v n)
 
   unfoldable pub times : (ℕ → Step) → ℕ → ℕ → Step
-  times p zero at = Next at
+  times p zero at = Ok at
   times p (suc k) at = after (p at) (times p k)
 
-  unfoldable pub list : (most why limit : ℕ) → ℕ → Step
+  unfoldable pub list : (most : ℕ) → (why : Fault) → (limit : ℕ) → ℕ → Step
   list most w n = do
     count ← below (most + 1)
     times (limited w n) count
@@ -76,10 +84,10 @@ module _ (s : List ℕ) where
   name = below name_count
 
   abbrev pub lifetimes : ℕ → Step
-  lifetimes = list most_lifetimes 6 lifetime_name_count
+  lifetimes = list most_lifetimes BadValue lifetime_name_count
 
   abbrev pub derives : ℕ → Step
-  derives = list most_derives 6 derive_kind_count
+  derives = list most_derives BadValue derive_kind_count
 
   -- ## Type rows. After the kind, by kinds, in row r
 
@@ -87,7 +95,7 @@ module _ (s : List ℕ) where
   with_flags n r = below n >> row_below r
 
   unfoldable pub signature : ℕ → ℕ → Step
-  signature r = below 4 >> or_none r >> list most_args 7 r
+  signature r = below 4 >> or_none r >> list most_args BadRow r
 
   unfoldable pub row_kinds : ℕ → List (ℕ → Step)
   row_kinds r =
@@ -136,8 +144,8 @@ module _ (s : List ℕ) where
   -- row r with its offset, and the test for an equal row before it
   unfoldable pub row_at : ℕ → ℕ → Step
   row_at r at =
-      after (check (eqb (offset r) at) 5 (4 + 2 * r) at) (λ _.
-      after (row r at) (λ next. check (fresh r r next) 8 at next))
+      after (check (eqb (offset r) at) Misplaced (4 + 2 * r) at) (λ _.
+      after (row r at) (λ next. check (fresh r r next) EqualRow at next))
 
   -- ## Items, over T rows. After the kind, by kinds
 
@@ -146,7 +154,7 @@ module _ (s : List ℕ) where
 
   -- a row below T of kind 0
   unfoldable pub repr : (T : ℕ) → ℕ → Step
-  repr T = one 7 (λ v. ltb v T && eqb (pair_at (offset v)) Ident)
+  repr T = one BadRow (λ v. ltb v T && eqb (pair_at (offset v)) Ident)
 
   -- how many variants, and how many of them are marked default
   unfoldable pub variants : ℕ → Step
@@ -164,12 +172,12 @@ module _ (s : List ℕ) where
     get_or receivers k end
 
   unfoldable pub function : (flags T : ℕ) → ℕ → Step
-  function flags T = name >> below flags >> lifetimes >> receiver >> or_none T >> list most_args 7 T
+  function flags T = name >> below flags >> lifetimes >> receiver >> or_none T >> list most_args BadRow T
 
   unfoldable pub item_kinds : (T : ℕ) → List (ℕ → Step)
   item_kinds T =
       end
-      ∷ (type_head >> list most_fields 7 T)
+      ∷ (type_head >> list most_fields BadRow T)
       ∷ (type_head >> repr T >> below 2 >> variants)
       ∷ (type_head >> below 4)
       ∷ (type_head >> below 4)
@@ -189,7 +197,7 @@ module _ (s : List ℕ) where
 
   -- item i with its offset
   unfoldable pub item_at : (T i : ℕ) → ℕ → Step
-  item_at T i at = after (check (eqb (offset (T + i)) at) 5 (4 + 2 * (T + i)) at) (λ _. item T at)
+  item_at T i at = after (check (eqb (offset (T + i)) at) Misplaced (4 + 2 * (T + i)) at) (λ _. item T at)
 
 -- ## The sheet
 
@@ -198,16 +206,16 @@ read s =
     let T = pair_at s 0 in
     let A = pair_at s 2 in
     let contents = 4 + 2 * (T + A) in
-    (check (leb (length s) most_bytes) 2 0
-    >> check (leb 4 (length s)) 3 0
-    >> check (leb T most_rows) 4 0
-    >> check (leb A most_items) 4 2
-    >> check (leb contents (length s)) 5 0
+    (check (leb (length s) most_bytes) LongSheet 0
+    >> check (leb 4 (length s)) ShortSheet 0
+    >> check (leb T most_rows) TooMany 0
+    >> check (leb A most_items) TooMany 2
+    >> check (leb contents (length s)) Misplaced 0
     >> each (row_at s) T 0
     >> each (item_at s T) A 0
-    >> (λ at. check (eqb at (length s)) 5 at at)) contents
+    >> (λ at. check (eqb at (length s)) Misplaced at at)) contents
 
 -- the sheet is accepted
 pub record Accepted (s : List ℕ) : Type 0 where
   pub ending : ℕ
-  pub is : read s ≡ Next ending
+  pub is : read s ≡ Ok ending

@@ -5,7 +5,7 @@
 use Rattle.std.specs.Prelude.{ℕ, suc, ◌≤◌, ◌<◌, min, ◌≡◌, ◌⊎◌, ◌↔◌, List, ◌∷◌, T, get_or, take}
 use Rattle.rules.specs.Numbers.{name_rust_string, Ident, RustBox, RustVec, Ref, Ptr, Str, SliceRef, Array, Fn, Void, Struct, RustType, TypeAlias}
 use Rattle.rules.specs.Numbers.{atom_count, name_count, improper_set}
-use Rattle.rules.specs.declared.Verdict.TheVariants.{Accepted}
+use Rattle.std.specs.Prelude.{Ok}
 use Rattle.rules.specs.declared.Diagnostic.{Diagnostic}
 use Rattle.rules.specs.Count.{count, place}
 use Rattle.rules.specs.Names.{Words, empty, ◌∋◌}
@@ -143,5 +143,5 @@ module _ (s : List ℕ) where
 -- what holds of each call that is answered accepted: laws/proofs/Rule3/Due.antt
 abbrev pub Due : Type 0
 Due =
-    (s scratch : List ℕ) (list : List Diagnostic) → (call s scratch list).answer.verdict ≡ Accepted
+    (s scratch : List ℕ) (list : List Diagnostic) → (call s scratch list).answer.verdict ≡ Ok tt
     → Rule3 s (call s scratch list).answer (report s) × Tiers3 s (call s scratch list).answer.tiers

@@ -6,7 +6,7 @@ use Rattle.rules.specs.Numbers.{name_count, most_items, scratch_size}
 use Rattle.rules.specs.declared.Place.TheVariants.{I}
 use Rattle.rules.specs.declared.Diagnostic.{Diagnostic}
 use Rattle.rules.specs.Names.{Words, empty}
-use Rattle.rules.specs.declared.Verdict.TheVariants.{Accepted}
+use Rattle.std.specs.Prelude.{Ok}
 use Rattle.rules.specs.declared.Answer.{Answer}
 use Rattle.rules.specs.Answer.{Outcome, name_set}
 
@@ -33,7 +33,7 @@ spread t (p ∷ ps) = spread (set t p.0 p.1) ps
 unfoldable pub expected_answer : Expected → Answer
 expected_answer e =
     record {
-      verdict = Accepted;
+      verdict = Ok tt;
       sets = map (λ names. name_set (words_of names)) e.name_sets;
       sizes = map length e.name_sets;
       reasons = spread (replicate name_count 0) e.reasons;

@@ -5,7 +5,7 @@ use Prim.Native.Char.{code}
 use Prim.Native.String.{String, [] as nothing, ◌∷◌ as ◌then◌}
 use mathlib.Core.List.{List, [], ◌∷◌, ◌++◌, map, flat_map}
 use Rattle.rules.specs.Numbers.{name_count, improper_set, scratch_size}
-use Rattle.rules.specs.declared.Verdict.TheVariants.{Accepted, Refused}
+use Rattle.std.specs.Prelude.{Ok, Err}
 use Rattle.rules.specs.declared.Answer.{Answer}
 use Rattle.rules.specs.declared.Place.{Place}
 use Rattle.rules.specs.declared.Diagnostic.{Diagnostic}
@@ -13,7 +13,7 @@ use Rattle.rules.specs.Base.{if'◌then◌else◌, over}
 use Rattle.rules.specs.Names.{Words, empty, ◌∋◌}
 use Rattle.rules.specs.Diagnostics.{letter_of, numbers_of}
 use Rattle.rules.specs.Report.{report}
-use Rattle.rules.specs.Answer.{name_set, call}
+use Rattle.rules.specs.Answer.{fault_number, name_set, call}
 
 -- the bytes of a text
 abbrev pub ascii : String → List ℕ
@@ -80,7 +80,7 @@ accepted_text a records =
 -- of an answer, and the records of the report
 unfoldable pub text_of : Answer → List Diagnostic → List ℕ
 text_of a records =
-    elim a.verdict [ Accepted ↦ accepted_text a records | Refused number position ↦ refused_text number position ]
+    elim a.verdict [ Ok _ ↦ accepted_text a records | Err r ↦ refused_text (fault_number r.fault) r.position ]
 
 -- of a list of bytes: what the call answers on a scratch that is long enough, and the full report. Which list the call gets does not show in its answer
 unfoldable pub sheet_text : List ℕ → List ℕ

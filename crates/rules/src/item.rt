@@ -1,21 +1,68 @@
 // The kinds of items, and no item: docs/SHEET.md.
-pub const INCLUDE: u16 = 0;
+ghost use Rattle.std.specs.Prelude.{◌≡◌};
+ghost use Rattle.rules.specs.Kinds.{item_kind, item_number};
+ghost use Rattle.rules.specs.View.{function_kind, type_kind};
 
-pub const STRUCT: u16 = 1;
+// The kinds, as `Api` of syntax.rs has them.
+#[derive(Clone, Copy, PartialEq, Eq)]
+pub enum ItemKind {
+    Include,
+    Struct,
+    Enum,
+    CxxType,
+    RustType,
+    CxxFunction,
+    RustFunction,
+    TypeAlias,
+    Impl,
+}
 
-pub const ENUM: u16 = 2;
+impl ItemKind {
+    // The kind of a number, if it is one's.
+    #[tactic(auto, unfolding(crate::specs::Kinds::item_kind))]
+    pub fn from_number(n: u16) -> Option<ItemKind>
+        ensures { result ≡ item_kind n }
+    {
+        match n {
+            0 => Some(ItemKind::Include),
+            1 => Some(ItemKind::Struct),
+            2 => Some(ItemKind::Enum),
+            3 => Some(ItemKind::CxxType),
+            4 => Some(ItemKind::RustType),
+            5 => Some(ItemKind::CxxFunction),
+            6 => Some(ItemKind::RustFunction),
+            7 => Some(ItemKind::TypeAlias),
+            8 => Some(ItemKind::Impl),
+            _ => None,
+        }
+    }
 
-pub const CXX_TYPE: u16 = 3;
+    pub fn number(self) -> u16
+        ensures { result ≡ item_number self }
+    {
+        self as u16
+    }
 
-pub const RUST_TYPE: u16 = 4;
+    // Kinds that go together: functions; structs, enums, CxxTypes, RustTypes and aliases.
+    pub fn is_function(self) -> bool
+        ensures { result ≡ function_kind (item_number self) }
+    {
+        matches!(self, ItemKind::CxxFunction | ItemKind::RustFunction)
+    }
 
-pub const CXX_FUNCTION: u16 = 5;
-
-pub const RUST_FUNCTION: u16 = 6;
-
-pub const TYPE_ALIAS: u16 = 7;
-
-pub const IMPL: u16 = 8;
+    pub fn is_type(self) -> bool
+        ensures { result ≡ type_kind (item_number self) }
+    {
+        matches!(
+            self,
+            ItemKind::Struct
+                | ItemKind::Enum
+                | ItemKind::CxxType
+                | ItemKind::RustType
+                | ItemKind::TypeAlias
+        )
+    }
+}
 
 // How many kinds there are.
 pub const KINDS: u16 = 9;

@@ -1,5 +1,9 @@
-// The types that a bridge sheet's answer is made of, and the numbers that have a name. What each value means is said in specs/; no function stands here.
+// The types that a bridge sheet's answer is made of, and the numbers that have a name. What each value means is said in specs/; the only functions are
+// those from a kind to its number and back.
 #![tactic(auto)]
+
+ghost use Rattle.std.specs.Prelude.{◌≡◌};
+ghost use Rattle.rules.specs.Answer.{fault_number};
 
 pub mod derive; // derives and lifetimes with a rule
 pub mod item; // kinds of items
@@ -9,12 +13,39 @@ pub mod row; // kinds of rows
 pub mod set; // sets of names
 pub mod size; // sizes of what is lent and written
 
-// What a step of the reader comes to: the place after what it read, or a refusal with its number and position.
-#[derive(Clone, Copy)]
-pub enum Step {
-    Next(usize),
-    Refused { number: u8, position: usize },
+// Why a sheet is refused, by the numbers of docs/SHEET.md.
+#[derive(Clone, Copy, PartialEq, Eq)]
+pub enum Fault {
+    ShortScratch = 1,
+    LongSheet = 2,
+    ShortSheet = 3,
+    TooMany = 4,
+    Misplaced = 5,
+    BadValue = 6,
+    BadRow = 7,
+    EqualRow = 8,
 }
+
+impl Fault {
+    pub fn number(self) -> u8
+        ensures { result ≡ fault_number self }
+    {
+        self as u8
+    }
+}
+
+// What is wrong, and at which byte of the sheet.
+#[derive(Clone, Copy, PartialEq, Eq)]
+pub struct Refusal {
+    pub fault: Fault,
+    pub position: usize,
+}
+
+// What a step of the reader comes to: the place after what it read, or a refusal.
+pub type Step = Result<usize, Refusal>;
+
+// What the whole sheet comes to: it is accepted, or refused.
+pub type Verdict = Result<(), Refusal>;
 
 // The subject of a diagnostic, by the letters of docs/SHEET.md: row; row and argument; item; item and field; item and argument; item's return; item
 // and derive; item and lifetime.
@@ -41,12 +72,6 @@ pub struct Diagnostic {
 #[derive(Clone, Copy)]
 pub struct NameSet {
     pub words: [u64; 4],
-}
-
-#[derive(Clone, Copy)]
-pub enum Verdict {
-    Accepted,
-    Refused { number: u8, position: usize },
 }
 
 // What one call answers.

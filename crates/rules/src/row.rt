@@ -1,31 +1,57 @@
 // The kinds of rows, and no row: docs/SHEET.md.
-pub const IDENT: u16 = 0;
+ghost use Rattle.std.specs.Prelude.{◌≡◌};
+ghost use Rattle.rules.specs.Kinds.{row_kind, row_number};
 
-pub const RUST_BOX: u16 = 1;
+// The kinds, as `Type` of syntax.rs has them.
+#[derive(Clone, Copy, PartialEq, Eq)]
+pub enum RowKind {
+    Ident,
+    RustBox,
+    RustVec,
+    UniquePtr,
+    SharedPtr,
+    WeakPtr,
+    CxxVector,
+    Ref,
+    Ptr,
+    Str,
+    SliceRef,
+    Array,
+    Fn,
+    Void,
+}
 
-pub const RUST_VEC: u16 = 2;
+impl RowKind {
+    // The kind of a number, if it is one's.
+    #[tactic(auto, unfolding(crate::specs::Kinds::row_kind))]
+    pub fn from_number(n: u16) -> Option<RowKind>
+        ensures { result ≡ row_kind n }
+    {
+        match n {
+            0 => Some(RowKind::Ident),
+            1 => Some(RowKind::RustBox),
+            2 => Some(RowKind::RustVec),
+            3 => Some(RowKind::UniquePtr),
+            4 => Some(RowKind::SharedPtr),
+            5 => Some(RowKind::WeakPtr),
+            6 => Some(RowKind::CxxVector),
+            7 => Some(RowKind::Ref),
+            8 => Some(RowKind::Ptr),
+            9 => Some(RowKind::Str),
+            10 => Some(RowKind::SliceRef),
+            11 => Some(RowKind::Array),
+            12 => Some(RowKind::Fn),
+            13 => Some(RowKind::Void),
+            _ => None,
+        }
+    }
 
-pub const UNIQUE_PTR: u16 = 3;
-
-pub const SHARED_PTR: u16 = 4;
-
-pub const WEAK_PTR: u16 = 5;
-
-pub const CXX_VECTOR: u16 = 6;
-
-pub const REF: u16 = 7;
-
-pub const PTR: u16 = 8;
-
-pub const STR: u16 = 9;
-
-pub const SLICE_REF: u16 = 10;
-
-pub const ARRAY: u16 = 11;
-
-pub const FN: u16 = 12;
-
-pub const VOID: u16 = 13;
+    pub fn number(self) -> u16
+        ensures { result ≡ row_number self }
+    {
+        self as u16
+    }
+}
 
 // How many kinds there are.
 pub const KINDS: u16 = 14;

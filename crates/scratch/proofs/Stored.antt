@@ -6,10 +6,9 @@ use mathlib.Core.Path.{◌≡◌, refl, sym, ap, ◌∙◌}
 use mathlib.Core.Bool.{Bool, true, false, ◌||◌}
 use mathlib.Core.List.{List, [], ◌∷◌, ◌++◌}
 use native.Mathlib.Omega.{arith}
-use native.Mathlib.Nat.{mod-eq_of_lt, zero-div}
+use native.Mathlib.Nat.{zero-div}
 use native.Mathlib.Numerals.{add-one}
 use lib.Bits.{bit_or}
-use lib.Pow.{pow-lt}
 use lib.Dec.{eqb}
 use lib.ListN.{length, get_or, set, drop, length-set, length-drop, get_or-eq_default}
 use lib.Seq.{get_or-set_same, get_or-set_other, get_or-drop, ext_get_or}
@@ -26,14 +25,6 @@ use Rattle.laws.proofs.Base.Tests.{both, or-false}
 use Rattle.scratch.specs.Bytes.{marks_place, marks_end, rows_of, marked, with_row, with_mark, HoldsRows, Grown, Addable}
 use Rattle.scratch.proofs.Zeroed.{cleared_at}
 use Rattle.scratch.proofs.OneMore.{bit-set, seen-snoc, room-less}
-
--- ## A bit of a byte
-
-pub byte_one : (k : ℕ) → k < 8 → (1 * 2 ^ k) % 256 ≡ 2 ^ k
-byte_one k l = ap (λ n. n % 256) (one-mul (2 ^ k)) ∙ mod-eq_of_lt (pow-lt l)
-  where
-    one-mul : (n : ℕ) → 1 * n ≡ n
-    one-mul n = omega arith
 
 -- ## The rows
 

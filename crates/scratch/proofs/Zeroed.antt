@@ -1,11 +1,11 @@
 -- A list whose first n entries became 0. The number of them stays a variable: so many zeros are never written out.
 -- Assumes nothing.
-use Prim.Native.Nat.{ℕ, zero, suc, ◌+◌, ◌<◌, ◌≤◌}
+use Prim.Native.Nat.{ℕ, zero, suc, ◌<◌, ◌≤◌}
 use mathlib.Core.Path.{◌≡◌, refl, sym, ap, ◌∙◌}
 use mathlib.Core.List.{List, ◌++◌}
 use native.Mathlib.Omega.{arith}
-use lib.ListN.{length, get_or, set, drop, replicate, length-append, length-replicate, length-drop}
-use borrow.Author.Fill.{fill_none, fill_more}
+use Rattle.std.proofs.Common.{length-take-le}
+use lib.ListN.{length, get_or, take, drop, replicate, length-append, length-replicate, length-drop}
 use Rattle.rules.specs.Numbers.{scratch_size}
 use Rattle.rules.specs.Answer.{cleared}
 
@@ -16,13 +16,10 @@ pub cleared-is : (b : List ℕ) → zeroed scratch_size b ≡ cleared b
 unfolding zeroed cleared
 cleared-is b = refl
 
-pub zeroed-none : (b : List ℕ) → b ≡ zeroed 0 b
+-- the first n entries are filled with 0
+pub zeroed-by : (n : ℕ) (b d : List ℕ) → n ≤ length b → d ≡ replicate (length (take n b)) 0 → d ++ drop n b ≡ zeroed n b
 unfolding zeroed
-zeroed-none b = fill_none b 0
-
-pub zeroed-more : (n : ℕ) (b : List ℕ) → n < length b → set (zeroed n b) n 0 ≡ zeroed (n + 1) b
-unfolding zeroed
-zeroed-more n b l = fill_more n 0 b l
+zeroed-by n b d l e = rw (e, length-take-le n b l) refl
 
 zeroed-length : (n : ℕ) (b : List ℕ) → n ≤ length b → length (zeroed n b) ≡ length b
 unfolding zeroed

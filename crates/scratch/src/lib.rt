@@ -17,11 +17,7 @@ pub fn clear(scratch: &mut [u8])
     requires { scratch_size ≤ length scratch.old }
     ensures { scratch.new ≡ cleared scratch.old }
 {
-    let mut i = 0;
-    while i < size::SCRATCH {
-        scratch[i] = 0;
-        i += 1;
-    }
+    scratch[..size::SCRATCH].fill(0);
 }
 
 // Row k of the collected ones.
@@ -49,8 +45,7 @@ fn mark(scratch: &mut [u8], r: u16)
     ensures { scratch.new ≡ with_mark scratch.old r }
 {
     let at = MARKS + (r as usize) / 8;
-    let one: u8 = 1;
-    scratch[at] = scratch[at] | (one << (r % 8));
+    scratch[at] |= 1 << (r % 8);
 }
 
 // Stores row r at place n.
@@ -59,8 +54,9 @@ fn put(scratch: &mut [u8], n: usize, r: u16)
     ensures { scratch.new ≡ with_row scratch.old n r }
 {
     let at = 2 * n;
-    scratch[at] = (r % 256) as u8;
-    scratch[at + 1] = (r / 256) as u8;
+    let [low, high] = r.to_le_bytes();
+    scratch[at] = low;
+    scratch[at + 1] = high;
 }
 
 // Row r, which was not seen, becomes row n of the collected ones.

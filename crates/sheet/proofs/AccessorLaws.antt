@@ -1,13 +1,16 @@
--- What the accessors ask: a pair before and at the end, and the two branches of `inner` and of `lifetimes_place`.
+-- What the accessors ask: a pair at the end, and the two branches of `inner` and of `lifetimes_place`.
 -- Assumes nothing.
-use Prim.Native.Nat.{ℕ, ◌+◌, ◌*◌, ◌≤◌, ◌<◌}
-use mathlib.Core.Path.{◌≡◌, refl, sym, ◌∙◌}
+use Prim.Native.Nat.{ℕ, ◌+◌, ◌≤◌, ◌<◌}
+use mathlib.Core.Path.{◌≡◌, sym, ap, ◌∙◌}
 use mathlib.Core.List.{List}
 use mathlib.Core.Bool.{Bool, true, false}
 use native.Mathlib.Omega.{arith}
 use lib.ListN.{length, get_or, get_or-eq_default}
 use lib.Dec.{leb}
 use borrow.Author.Tests.{le-leb, lt-leb, leb-false}
+use Rattle.std.specs.Prelude.{Option, Some, None}
+use Rattle.rules.specs.declared.item.ItemKind.{ItemKind}
+use Rattle.rules.specs.Kinds.{item_kind, item_number, item_kind-back, item_kind-past}
 use Rattle.rules.specs.Base.{if'◌then◌else◌}
 use Rattle.rules.specs.Format.{pair_at, offset}
 use Rattle.rules.specs.View.{kind, inner, item_place, is_type, lifetimes_place}
@@ -18,10 +21,6 @@ module _ (s : List ℕ) (at : ℕ) where
   pair-cut e h q =
       let l = leb-false (at + 2) (length s) (sym e ∙ h) in
       rw (q, get_or-eq_default s 0 {n = at + 1} (omega arith)) (omega arith)
-
-  pub pair-both : get_or s at 0 + 256 * get_or s (at + 1) 0 ≡ pair_at s at
-  unfolding pair_at
-  pair-both = refl
 
 module _ (s : List ℕ) (r : ℕ) {o k x : ℕ} (eo : o ≡ offset s r) (ek : k ≡ pair_at s o) where
   pub inner-near : k ≤ 6 → x ≡ pair_at s (o + 2) → x ≡ inner s r
@@ -40,3 +39,12 @@ module _ (s : List ℕ) (i : ℕ) {o : ℕ} {b : Bool} (eo : o ≡ item_place s 
   pub place_other : b ≡ false → o + 6 ≡ lifetimes_place s i
   unfolding lifetimes_place if'◌then◌else◌
   place_other h = rw (← eb, h, eo)
+
+-- ## A test of an item's kind, by whether its number is a kind's
+
+module _ (test : ℕ → Bool) {n : ℕ} {o : Option ItemKind} (e : o ≡ item_kind n) where
+  pub kind_passes : {k : ItemKind} {x : Bool} → o ≡ Some k → x ≡ test (item_number k) → x ≡ test n
+  kind_passes h q = q ∙ ap test (sym (item_kind-back n (sym e ∙ h)))
+
+  pub kind_none : {x : Bool} → o ≡ None → ((k : ℕ) → 9 ≤ k → x ≡ test k) → x ≡ test n
+  kind_none h past = past n (item_kind-past n (sym e ∙ h))

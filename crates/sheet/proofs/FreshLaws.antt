@@ -4,42 +4,45 @@
 use Prim.Native.Nat.{ℕ, zero, suc, ◌+◌, ◌-◌, ◌*◌, ◌≤◌, ◌<◌, ◌/◌, ◌%◌}
 use mathlib.Core.Path.{◌≡◌, refl, sym, ap, ◌∙◌}
 use mathlib.Core.List.{List}
-use mathlib.Core.Bool.{Bool, true, false}
+use mathlib.Core.Bool.{Bool, true, false, ◌&&◌}
 use native.Mathlib.Omega.{arith}
 use native.Mathlib.Decide.{ℕ_discrete}
-use native.Mathlib.Numerals.{sub-one}
-use lib.ListN.{length, get_or, set, get_or-eq_default}
+use lib.ListN.{length, get_or, set}
 use lib.Seq.{get_or-set_same, get_or-set_other}
+use lib.Bits.{bit_or}
 use lib.Dec.{eqb}
-use borrow.Author.Count.{below_more}
 use borrow.Author.Tests.{eqb-true, eq-eqb, ne_eqb}
-use Rattle.rules.specs.declared.Step.{Step}
-use Rattle.rules.specs.declared.Step.TheVariants.{Next, Refused}
-use Rattle.rules.specs.Format.{check, after, pair_at, offset, same_bytes, equal_rows, fresh, row_at, row}
+use Rattle.std.proofs.lemmas.Nat.{or_comm, or_shifted}
+use Rattle.rules.specs.declared.Refusal.{Refusal}
+use Rattle.rules.specs.declared.Fault.TheVariants.{Misplaced, EqualRow}
+use Rattle.std.specs.Prelude.{Ok, Err}
+use Rattle.rules.specs.Format.{Step, refusal, check, after, pair_at, offset, same_bytes, equal_rows, fresh, row_at, row}
+use Rattle.std.specs.List.{list_all, range_with_len}
 use Rattle.sheet.specs.Keys.{mix, key, row_key, KeyHeld, Kept, Sought, placed}
 
-module _ (s : List ℕ) (at : ℕ) where
-  pub byte-none : length s ≤ at → 0 ≡ get_or s at 0
-  byte-none h = sym (get_or-eq_default s 0 h)
+-- bytes compared place by place
+module _ (s : List ℕ) (a b : ℕ) where
+  abbrev pub alike : ℕ → Bool
+  alike k = eqb (get_or s (a + k) 0) (get_or s (b + k) 0)
 
--- bytes compared one by one
-module _ (s : List ℕ) (whole : Bool) (i j : ℕ) where
-  pub bytes-differ : (left : ℕ) {x y : ℕ} → whole ≡ same_bytes s left i j → 0 < left → x ≡ get_or s i 0 → y ≡ get_or s j 0 → (x ≡ y → ⊥) → false ≡ whole
+  alike-from : (n j : ℕ) → list_all alike (range_with_len j n) ≡ same_bytes s n (a + j) (b + j)
   unfolding same_bytes
-  bytes-differ zero h l e f d = absurd (omega arith)
-  bytes-differ (suc k) h l e f d = sym (rw (ne_eqb (get_or s i 0) (get_or s j 0) (λ q. d (e ∙ q ∙ sym f)), same_bytes) at h)
+  alike-from zero j = refl
+  alike-from (suc n) j = go (alike j) refl (alike-from n (j + 1))
+    where
+      go : (t : Bool) → alike j ≡ t → list_all alike (range_with_len (j + 1) n) ≡ same_bytes s n (a + (j + 1)) (b + (j + 1))
+          → (alike j && list_all alike (range_with_len (j + 1) n)) ≡ same_bytes s (suc n) (a + j) (b + j)
+      go false q ih = rw (q, same_bytes) refl
+      go true q ih =
+          let ea : a + j + 1 ≡ a + (j + 1) = omega arith in
+          let eb : b + j + 1 ≡ b + (j + 1) = omega arith in
+          rw (q, same_bytes, ea, eb) ih
 
-  pub bytes-agree :
-      (left : ℕ) {x y : ℕ} → whole ≡ same_bytes s left i j → 0 < left → x ≡ get_or s i 0 → y ≡ get_or s j 0 → x ≡ y
-      → whole ≡ same_bytes s (left - 1) (i + 1) (j + 1)
-  unfolding same_bytes
-  bytes-agree zero h l e f d = absurd (omega arith)
-  bytes-agree (suc k) h l e f d = rw (sub-one (suc k)) (rw (eq-eqb (get_or s i 0) (get_or s j 0) (sym e ∙ d ∙ f), same_bytes) at h)
-
-  pub bytes-end : (left : ℕ) → whole ≡ same_bytes s left i j → left ≤ 0 → true ≡ whole
-  unfolding same_bytes
-  bytes-end zero h l = sym h
-  bytes-end (suc k) h l = absurd (omega arith)
+  pub alike-all : (n : ℕ) → list_all alike (range_with_len 0 n) ≡ same_bytes s n a b
+  alike-all n =
+      let ea : a + 0 ≡ a = omega arith in
+      let eb : b + 0 ≡ b = omega arith in
+      rw (ea, eb) at (alike-from n 0)
 
 module _
     (s : List ℕ) (i r next : ℕ) {a b e n m : ℕ} (ea : a ≡ offset s i) (eb : b ≡ offset s r) (ee : e ≡ offset s (i + 1))
@@ -52,25 +55,28 @@ module _
     unfolding equal_rows
     rows_alike q h = rw (eq-eqb (offset s (i + 1) - offset s i) (next - offset s r) (sym lengths ∙ q ∙ rw (← eb) em), equal_rows) (rw (← lengths, ← ea, ← eb) h)
 
-    pub rows-unlike : (n ≡ m → ⊥) → false ≡ equal_rows s i r next
+    pub rows-unlike : (n ≡ m → ⊥) → eqb n m ≡ equal_rows s i r next
     unfolding equal_rows
-    rows-unlike q = rw (ne_eqb (offset s (i + 1) - offset s i) (next - offset s r) (λ z. q (lengths ∙ z ∙ sym (rw (← eb) em))), equal_rows)
+    rows-unlike q = ne_eqb n m q ∙ rw (ne_eqb (offset s (i + 1) - offset s i) (next - offset s r) (λ z. q (lengths ∙ z ∙ sym (rw (← eb) em))), equal_rows)
 
-module _ (s : List ℕ) (r next : ℕ) (whole : Bool) where
-  pub fresh-seen : (i : ℕ) {x : Bool} → whole ≡ fresh s i r next → 0 < i → x ≡ equal_rows s (i - 1) r next → x ≡ true → false ≡ whole
+-- rows compared one by one: none of the first j equals row r, or one does
+module _ (s : List ℕ) (r next : ℕ) where
+  pub fresh-none : (j : ℕ) → ((i : ℕ) → i < j → equal_rows s i r next ≡ false) → true ≡ fresh s j r next
   unfolding fresh
-  fresh-seen zero h l e q = absurd (omega arith)
-  fresh-seen (suc k) h l e q = sym (h ∙ rw (sym (rw (sub-one (suc k)) at e) ∙ q, fresh))
+  fresh-none zero h = refl
+  fresh-none (suc j) h = rw (h j (omega arith), fresh) (fresh-none j (λ i l. h i (omega arith)))
 
-  pub fresh-go : (i : ℕ) {x : Bool} → whole ≡ fresh s i r next → 0 < i → x ≡ equal_rows s (i - 1) r next → x ≡ false → whole ≡ fresh s (i - 1) r next
+  pub fresh-found : (j i : ℕ) → i < j → equal_rows s i r next ≡ true → false ≡ fresh s j r next
   unfolding fresh
-  fresh-go zero h l e q = absurd (omega arith)
-  fresh-go (suc k) h l e q = rw (sub-one (suc k)) (h ∙ rw (sym (rw (sub-one (suc k)) at e) ∙ q, fresh))
+  fresh-found zero i l e = absurd (omega arith)
+  fresh-found (suc j) i l e = go (equal_rows s j r next) refl (λ k. fresh-found j i k e)
+    where
+      apart : equal_rows s j r next ≡ false → i ≡ j → ⊥
+      apart q d = let z : true ≡ false = sym e ∙ ap (λ (k : ℕ). equal_rows s k r next) d ∙ q in cc
 
-  pub fresh-end : (i : ℕ) → whole ≡ fresh s i r next → i ≤ 0 → true ≡ whole
-  unfolding fresh
-  fresh-end zero h l = sym h
-  fresh-end (suc k) h l = absurd (omega arith)
+      go : (t : Bool) → equal_rows s j r next ≡ t → (i < j → false ≡ fresh s j r next) → false ≡ fresh s (suc j) r next
+      go true q ih = rw (q, fresh) refl
+      go false q ih = let ne : (i ≡ j → ⊥) = apart q in rw (q, fresh) (ih (omega arith))
 
 -- a test that holds, and what it leads to
 tested : (b : Bool) (x : Bool) → elim b as (λ _. Bool) [ true ↦ x | false ↦ false ] ≡ true → (b ≡ true) × (x ≡ true)
@@ -113,23 +119,39 @@ module _ (s : List ℕ) where
         by false q = refl
 
     pub fresh-keys : (j : ℕ) {k : ℕ} → k ≡ key s (next - offset s r) (offset s r) seed → ((i : ℕ) → i < j → row_key s seed i ≡ k → ⊥) → true ≡ fresh s j r next
-    unfolding fresh
-    fresh-keys zero e h = refl
-    fresh-keys (suc j) e h = rw (other_key j e (h j (omega arith)), fresh) (fresh-keys j e (λ i l. h i (omega arith)))
+    fresh-keys j e h = fresh-none s r next j (λ i l. other_key i e (h i l))
 
--- the key, a pair a turn; whole is the key where the loop began
-module _ (s : List ℕ) (whole i k : ℕ) where
-  pub key-go : (left : ℕ) {p m : ℕ} → whole ≡ key s left i k → 2 ≤ left → p ≡ pair_at s i → m ≡ mix k p → whole ≡ key s (left - 2) (i + 2) m
-  unfolding key
-  key-go zero h l e f = absurd (omega arith)
-  key-go (suc zero) h l e f = absurd (omega arith)
-  key-go (suc (suc n)) h l e f = let q : suc (suc n) - 2 ≡ n = omega arith in rw (q, f, e) h
+-- the key, a pair a turn: after j pairs of n bytes from a
+module _ (s : List ℕ) (n a : ℕ) where
+  abbrev pub key-from : (j k : ℕ) → ℕ
+  key-from j k = key s (n - 2 * j) (a + 2 * j) k
 
-  pub key-end : (left : ℕ) → whole ≡ key s left i k → left < 2 → k ≡ whole
+  pub key-start : (k : ℕ) → key s n a k ≡ key-from 0 k
+  key-start k =
+      let en : n ≡ n - 2 * 0 = omega arith in
+      let ea : a ≡ a + 2 * 0 = omega arith in
+      ap (λ (m : ℕ). key s m a k) en ∙ ap (λ (i : ℕ). key s (n - 2 * 0) i k) ea
+
+  key-pair : (left i k : ℕ) → 2 ≤ left → key s left i k ≡ key s (left - 2) (i + 2) (mix k (pair_at s i))
   unfolding key
-  key-end zero h l = sym h
-  key-end (suc zero) h l = sym h
-  key-end (suc (suc n)) h l = absurd (omega arith)
+  key-pair zero i k l = absurd (omega arith)
+  key-pair (suc zero) i k l = absurd (omega arith)
+  key-pair (suc (suc m)) i k l = let q : suc (suc m) - 2 ≡ m = omega arith in rw (q, key)
+
+  pub key-more : (j k : ℕ) {whole p m : ℕ} → whole ≡ key-from j k → j < n / 2 → p ≡ pair_at s (a + 2 * j) → m ≡ mix k p → whole ≡ key-from (j + 1) m
+  key-more j k {whole} {p} {m} h l e f =
+      let en : n - 2 * j - 2 ≡ n - 2 * (j + 1) = omega arith in
+      let ea : a + 2 * j + 2 ≡ a + 2 * (j + 1) = omega arith in
+      h ∙ key-pair (n - 2 * j) (a + 2 * j) k (omega arith) ∙ rw (en, ea, f, e)
+
+  key-last : (left i k : ℕ) → left < 2 → key s left i k ≡ k
+  unfolding key
+  key-last zero i k l = refl
+  key-last (suc zero) i k l = refl
+  key-last (suc (suc m)) i k l = absurd (omega arith)
+
+  pub key-end : (j k : ℕ) {whole : ℕ} → whole ≡ key-from j k → n / 2 ≤ j → k ≡ whole
+  key-end j k h l = sym (h ∙ key-last (n - 2 * j) (a + 2 * j) k (omega arith))
 
 -- one row more is kept
 module _ (s : List ℕ) (r : ℕ) where
@@ -161,22 +183,15 @@ high_half k h = omega arith
 pub product-fits : (u h p : ℕ) → u < 4294967296 → h < 4294967296 → p < 65536 → 2654435769 * (u + p) + h < 18446744073709551616
 product-fits u h p hu hh hp = omega arith
 
-pub turned-fits : (z : ℕ) → z < 18446744073709551616 → z % 262144 * 70368744177664 + z / 262144 < 18446744073709551616
-turned-fits z h = two (z % 262144) (z / 262144) (omega arith) (omega arith)
-  where
-    two : (l g : ℕ) → l < 262144 → g < 70368744177664 → l * 70368744177664 + g < 18446744073709551616
-    two l g hl hg = omega arith
-
--- a count of keys, a key a turn
-module _ (keys : List ℕ) (k n i : ℕ) (h : n ≡ 0 → (j : ℕ) → j < i → get_or keys j 0 ≡ k → ⊥) where
-  pub count-hit : {m : ℕ} → m ≡ n + 1 → m ≡ 0 → (j : ℕ) → j < i + 1 → get_or keys j 0 ≡ k → ⊥
-  count-hit e z j l q = omega arith
-
-  pub count-miss : {m : ℕ} → m ≡ n → (get_or keys i 0 ≡ k → ⊥) → m ≡ 0 → (j : ℕ) → j < i + 1 → get_or keys j 0 ≡ k → ⊥
-  count-miss e d z = below_more _ _ (h (sym e ∙ z)) d
+-- a turn by 18 bits: the low bits become the high ones
+pub turned-is : (z : ℕ) → z < 18446744073709551616
+    → bit_or (z / 262144) (z * 70368744177664 % 18446744073709551616) ≡ z % 262144 * 70368744177664 + z / 262144
+turned-is z h =
+    let high : z * 70368744177664 % 18446744073709551616 ≡ z % 262144 * 70368744177664 = omega arith in
+    ap (bit_or (z / 262144)) high ∙ or_comm (z / 262144) (z % 262144 * 70368744177664) ∙ or_shifted (z % 262144) 46 (z / 262144) (omega arith)
 
 module _ (s : List ℕ) (r at : ℕ) {o : ℕ} (eo : o ≡ offset s r) where
-  pub placed_off : (o ≡ at → ⊥) → Refused 5 (4 + 2 * r) ≡ placed s r at
+  pub placed_off : (o ≡ at → ⊥) → refusal Misplaced (4 + 2 * r) ≡ placed s r at
   unfolding placed
   placed_off d = simp (ne_eqb (offset s r) at (λ q. d (eo ∙ q)))
 
@@ -186,30 +201,30 @@ module _ (s : List ℕ) (r at : ℕ) {o : ℕ} (eo : o ≡ offset s r) where
 
 -- `row_at` by what `placed` answers
 module _ (s : List ℕ) (r at : ℕ) {x : Step} (e : x ≡ placed s r at) where
-  pub placed-here : {p : ℕ} → x ≡ Next p → offset s r ≡ at
+  pub placed-here : {p : ℕ} → x ≡ Ok p → offset s r ≡ at
   unfolding placed
   placed-here {p} q = by (eqb (offset s r) at) refl
     where
       by : (b : Bool) → eqb (offset s r) at ≡ b → offset s r ≡ at
       by true t = eqb-true _ _ t
-      by false t = absurd (let w : Next p ≡ Refused 5 (4 + 2 * r) = sym q ∙ e ∙ simp t in let z : ◌≡◌ {A = ℕ} 0 1 = cc in omega arith)
+      by false t = absurd (let w : Ok p ≡ refusal Misplaced (4 + 2 * r) = sym q ∙ e ∙ simp t in let z : ◌≡◌ {A = ℕ} 0 1 = cc in omega arith)
 
-  all_of : row_at s r at ≡ after x (λ next. check (fresh s r r next) 8 at next)
+  all_of : row_at s r at ≡ after x (λ next. check (fresh s r r next) EqualRow at next)
   unfolding placed row_at
   all_of = by (eqb (offset s r) at) refl
     where
-      by : (b : Bool) → eqb (offset s r) at ≡ b → row_at s r at ≡ after x (λ next. check (fresh s r r next) 8 at next)
+      by : (b : Bool) → eqb (offset s r) at ≡ b → row_at s r at ≡ after x (λ next. check (fresh s r r next) EqualRow at next)
       by true t = rw (e, placed) (simp t)
       by false t = rw (e, placed) (simp t)
 
-  pub row-refused : {w p : ℕ} → x ≡ Refused w p → x ≡ row_at s r at
+  pub row-refused : {e : Refusal} → x ≡ Err e → x ≡ row_at s r at
   row-refused q = q ∙ sym (rw q at all_of)
 
-  module _ {next : ℕ} (q : x ≡ Next next) {f : Bool} (ef : f ≡ fresh s r r next) where
+  module _ {next : ℕ} (q : x ≡ Ok next) {f : Bool} (ef : f ≡ fresh s r r next) where
     pub row_new : f ≡ true → x ≡ row_at s r at
     row_new t = q ∙ sym (rw (q, sym ef ∙ t) at all_of)
 
-    pub row_seen : f ≡ false → Refused 8 at ≡ row_at s r at
+    pub row_seen : f ≡ false → refusal EqualRow at ≡ row_at s r at
     row_seen t = sym (rw (q, sym ef ∙ t) at all_of)
 
 -- what `fresh` finds out

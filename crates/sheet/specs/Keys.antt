@@ -2,8 +2,8 @@
 -- none of them. Which numbers the keys are is of no importance to that: `mix` is as good as any other function.
 -- Assumes nothing: these are definitions.
 use Rattle.std.specs.Prelude.{ℕ, zero, suc, ◌+◌, ◌-◌, ◌*◌, ◌/◌, ◌%◌, ◌<◌, ◌≤◌, ◌≡◌, List, get_or, eqb}
-use Rattle.rules.specs.declared.Step.{Step}
-use Rattle.rules.specs.Format.{after, check, pair_at, offset, row}
+use Rattle.rules.specs.declared.Fault.TheVariants.{Misplaced}
+use Rattle.rules.specs.Format.{Step, after, check, pair_at, offset, row}
 
 -- a number turned by 18 bits of 64
 abbrev turned : ℕ → ℕ
@@ -48,4 +48,4 @@ module _ (s : List ℕ) where
 
   -- row r with its offset
   unfoldable pub placed : (r at : ℕ) → Step
-  placed r at = after (check (eqb (offset s r) at) 5 (4 + 2 * r) at) (λ _. row s r at)
+  placed r at = after (check (eqb (offset s r) at) Misplaced (4 + 2 * r) at) (λ _. row s r at)

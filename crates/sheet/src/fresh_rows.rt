@@ -6,30 +6,12 @@ ghost use Rattle.sheet.specs.Keys.{mix, key, Kept, Sought, TwoKeys};
 use crate::{byte_at, offset, pair_at};
 use rules::limit;
 
-// What is left of a after b is taken away, if anything is.
-fn minus(a: usize, b: usize) -> usize
-    ensures { result ≡ a - b }
-{
-    if a < b { 0 } else { a - b }
-}
-
 // Whether n bytes from a are those from b.
 fn same_bytes(s: &[u8], n: usize, a: u16, b: u16) -> bool
     requires { n < 65536 }
     ensures { result ≡ same_bytes s.now n a b }
 {
-    let mut left = n;
-    let mut i = a as usize;
-    let mut j = b as usize;
-    while 0 < left {
-        if byte_at(s, i) != byte_at(s, j) {
-            return false;
-        }
-        i += 1;
-        j += 1;
-        left -= 1;
-    }
-    true
+    (0..n).all(|k| byte_at(s, a as usize + k) == byte_at(s, b as usize + k))
 }
 
 // Whether row i equals row r, which ends at next.
@@ -38,12 +20,8 @@ fn equal_rows(s: &[u8], i: u16, r: u16, next: usize) -> bool
 {
     let a = offset(s, i as u32);
     let b = offset(s, r as u32);
-    let n = minus(offset(s, i as u32 + 1) as usize, a as usize);
-    if n == minus(next, b as usize) {
-        same_bytes(s, n, a, b)
-    } else {
-        false
-    }
+    let n = offset(s, i as u32 + 1).saturating_sub(a) as usize;
+    n == next.saturating_sub(b as usize) && same_bytes(s, n, a, b)
 }
 
 // One more pair in a row's key: a product, a carry and a turn by 18 bits, so that the low bits spread.
@@ -51,7 +29,7 @@ fn mix(k: u64, p: u16) -> u64
     ensures { result ≡ mix k p }
 {
     let z = 2654435769 * (k % 4294967296 + p as u64) + k / 4294967296;
-    z % 262144 * 70368744177664 + z / 262144
+    z.rotate_right(18)
 }
 
 // Two keys of one row, from two seeds.
@@ -65,32 +43,27 @@ pub struct Keys {
 pub fn keys_of(s: &[u8], a: usize, end: usize) -> Keys
     ensures { TwoKeys s.now a end result.first result.second }
 {
-    let mut left = minus(end, a);
-    let mut i = a;
-    let mut k = 0;
-    let mut m = 11400714819323198485;
-    while 2 <= left {
-        let p = pair_at(s, i);
-        k = mix(k, p);
-        m = mix(m, p);
-        i += 2;
-        left -= 2;
+    let mut two = Keys {
+        first: 0,
+        second: 11400714819323198485,
+    };
+    for j in 0..end.saturating_sub(a) / 2 {
+        let p = pair_at(s, a + 2 * j);
+        two.first = mix(two.first, p);
+        two.second = mix(two.second, p);
     }
-    Keys {
-        first: k,
-        second: m,
-    }
+    two
 }
 
-// How many of the first r keys are k. There is no way out of the loop before its end, so that it is compiled to instructions that compare
-// several at once.
+// How many of the first r keys are k. There is no way out of the loop before its end, and the first keys stand apart from the second, so that it is
+// compiled to instructions that compare several at once; an iterator's `filter` and `count` are not.
 fn hits(keys: &[u64; limit::ROWS], r: usize, k: u64) -> usize
     requires { r ≤ 1024 }
     ensures { result ≡ 0 → (i : ℕ) → i < r → get_or keys.now i 0 ≡ k → ⊥ }
 {
     let mut n = 0;
-    for i in 0..r {
-        if keys[i] == k {
+    for &key in &keys[..r] {
+        if key == k {
             n += 1;
         }
     }
@@ -110,15 +83,9 @@ fn fresh_among(
     requires { Sought s.now keys.now more.now r k m next }
     ensures { result ≡ fresh s.now r r next }
 {
-    let mut i = r;
-    while 0 < i {
-        i -= 1;
-        if keys[i as usize] == k {
-            if more[i as usize] == m {
-                if equal_rows(s, i, r, next) {
-                    return false;
-                }
-            }
+    for i in 0..r {
+        if keys[i as usize] == k && more[i as usize] == m && equal_rows(s, i, r, next) {
+            return false;
         }
     }
     true
@@ -139,12 +106,7 @@ pub fn fresh(
     ensures { result ≡ fresh s.now r r next }
 {
     let k = two.first;
-    let old = seen[k as usize % 16384];
-    if old == 0 {
-        return true;
-    }
-    if hits(keys, r as usize, k) == 0 {
-        return true;
-    }
-    fresh_among(s, keys, more, r, k, two.second, next)
+    seen[k as usize % 16384] == 0
+        || hits(keys, r as usize, k) == 0
+        || fresh_among(s, keys, more, r, k, two.second, next)
 }

@@ -17,7 +17,7 @@ ghost use Rattle.rules.specs.View.{
 };
 
 use crate::items::{flag1, flag2, flag4, item_place};
-use crate::pair_at;
+use crate::{behind, pair_at};
 use rules::row;
 
 pub fn function_unsafe(s: &[u8], i: u16) -> bool
@@ -42,8 +42,7 @@ pub fn function_unwind(s: &[u8], i: u16) -> bool
 pub fn receiver_place(s: &[u8], i: u16) -> u32
     ensures { result ≡ receiver_place s.now i }
 {
-    let at = item_place(s, i) as u32 + 6;
-    at + 2 + 2 * (pair_at(s, at as usize) as u32)
+    behind(s, item_place(s, i) as u32 + 6)
 }
 
 // 0 free, 1 associated, 2 method.
@@ -88,9 +87,8 @@ pub fn receiver_pinned(s: &[u8], i: u16) -> bool
 pub fn args_place(s: &[u8], i: u16) -> u32
     ensures { result ≡ return_place s.now i + 2 }
 {
-    let at = item_place(s, i) as u32 + 6;
-    let receiver = at + 2 + 2 * (pair_at(s, at as usize) as u32);
-    receiver + 2 + 2 * (pair_at(s, receiver as usize) as u32) + 2
+    let receiver = behind(s, item_place(s, i) as u32 + 6);
+    behind(s, receiver) + 2
 }
 
 // Where the return row stands, before that list.

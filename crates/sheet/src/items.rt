@@ -1,14 +1,12 @@
 // The items.
 ghost use Rattle.std.specs.Prelude.{◌≡◌, ◌+◌, ◌*◌, ◌≤◌, length};
+ghost use Rattle.rules.specs.Kinds.{item_kind as kind_of_item, item_number};
 ghost use Rattle.rules.specs.View.{
   rows,
   items,
   item_place,
   item_kind,
   item_is,
-  function_kind,
-  type_kind,
-  enum_kind,
   is_function,
   is_type,
   item_name,
@@ -32,9 +30,8 @@ ghost use Rattle.rules.specs.View.{
   flag4,
 };
 
-use crate::logic::{and, or};
-use crate::{offset, pair_at, pair_within};
-use rules::item;
+use crate::{behind, offset, pair_at, pair_within};
+use rules::item::ItemKind;
 
 // Flags 1, 2 and 4 of a sum.
 pub fn flag1(f: u16) -> bool
@@ -75,51 +72,44 @@ pub fn item_place(s: &[u8], i: u16) -> u16
     offset(s, pair_at(s, 0) as u32 + i as u32)
 }
 
-pub fn item_kind(s: &[u8], i: u16) -> u16
+// The number that says of which kind item i is.
+pub fn item_kind_number(s: &[u8], i: u16) -> u16
     ensures { result ≡ item_kind s.now i }
 {
     pair_at(s, item_place(s, i) as usize)
 }
 
+// Its kind, if the number is a kind's: all are in an accepted sheet.
+pub fn item_kind(s: &[u8], i: u16) -> Option<ItemKind>
+    ensures { result ≡ kind_of_item (item_kind s.now i) }
+{
+    ItemKind::from_number(item_kind_number(s, i))
+}
+
 // Whether item i is of kind k.
-pub fn item_is(s: &[u8], k: u16, i: u16) -> bool
-    ensures { result ≡ item_is s.now k i }
+pub fn item_is(s: &[u8], k: ItemKind, i: u16) -> bool
+    ensures { result ≡ item_is s.now (item_number k) i }
 {
-    item_kind(s, i) == k
+    item_kind_number(s, i) == k.number()
 }
 
-// Kinds of items that go together: functions; structs, enums, CxxTypes, RustTypes and aliases; enums.
-pub fn function_kind(k: u16) -> bool
-    ensures { result ≡ function_kind k }
-{
-    or(k == item::CXX_FUNCTION, k == item::RUST_FUNCTION)
-}
-
-pub fn type_kind(k: u16) -> bool
-    ensures { result ≡ type_kind k }
-{
-    or(
-        and(item::STRUCT <= k, k <= item::RUST_TYPE),
-        k == item::TYPE_ALIAS,
-    )
-}
-
-pub fn enum_kind(k: u16) -> bool
-    ensures { result ≡ enum_kind k }
-{
-    k == item::ENUM
-}
-
+// Whether it is a function; a struct, enum, CxxType, RustType or alias.
 pub fn is_function(s: &[u8], i: u16) -> bool
     ensures { result ≡ is_function s.now i }
 {
-    function_kind(item_kind(s, i))
+    match item_kind(s, i) {
+        Some(k) => k.is_function(),
+        None => false,
+    }
 }
 
 pub fn is_type(s: &[u8], i: u16) -> bool
     ensures { result ≡ is_type s.now i }
 {
-    type_kind(item_kind(s, i))
+    match item_kind(s, i) {
+        Some(k) => k.is_type(),
+        None => false,
+    }
 }
 
 // The name of an item of kind 1 to 7.
@@ -162,8 +152,7 @@ pub fn lifetime_count(s: &[u8], i: u16) -> u16
 pub fn derives_place(s: &[u8], i: u16) -> u32
     ensures { result ≡ derives_place s.now i }
 {
-    let at = item_place(s, i) as u32 + 4;
-    at + 2 + 2 * (pair_at(s, at as usize) as u32)
+    behind(s, item_place(s, i) as u32 + 4)
 }
 
 pub fn derive_count(s: &[u8], i: u16) -> u16
@@ -175,9 +164,8 @@ pub fn derive_count(s: &[u8], i: u16) -> u16
 pub fn rest(s: &[u8], i: u16) -> u32
     ensures { result ≡ rest s.now i }
 {
-    let at = item_place(s, i) as u32 + 4;
-    let derives = at + 2 + 2 * (pair_at(s, at as usize) as u32);
-    derives + 2 + 2 * (pair_at(s, derives as usize) as u32)
+    let derives = behind(s, item_place(s, i) as u32 + 4);
+    behind(s, derives)
 }
 
 // Of a Struct: its field rows.

@@ -4,13 +4,15 @@
 #![tactic(auto)]
 
 ghost use Rattle.std.specs.Prelude.{◌≡◌, ◌+◌, ◌≤◌, leb, length, get_or};
-ghost use Rattle.rules.specs.Format.{pair_at, offset};
+ghost use Rattle.rules.specs.Format.{pair_at, offset, refusal};
+ghost use Rattle.rules.specs.View.{past};
+
+use rules::{Fault, Refusal, Step};
 
 mod fresh_rows;
 pub mod functions;
 mod item_steps;
 pub mod items;
-pub mod logic;
 pub mod read;
 mod row_steps;
 pub mod rows;
@@ -20,7 +22,7 @@ mod steps;
 fn byte_at(s: &[u8], at: usize) -> u8
     ensures { result ≡ get_or s.now at 0 }
 {
-    if at < s.len() { s[at] } else { 0 }
+    s.get(at).copied().unwrap_or(0)
 }
 
 // Whether the sheet has a whole pair at a place.
@@ -28,10 +30,7 @@ fn has_pair(s: &[u8], at: usize) -> bool
     ensures { result ≡ leb (at + 2) (length s.now) }
 {
     let n = s.len();
-    if n < 2 {
-        return false;
-    }
-    at <= n - 2
+    2 <= n && at <= n - 2
 }
 
 // The pair at a place that has one. Nothing is tested, so that a loop over a list is short.
@@ -39,9 +38,7 @@ pub fn pair_within(s: &[u8], at: usize) -> u16
     requires { at + 2 ≤ length s.now }
     ensures { result ≡ pair_at s.now at }
 {
-    let low = s[at] as u16;
-    let high = s[at + 1] as u16;
-    low + 256 * high
+    u16::from_le_bytes([s[at], s[at + 1]])
 }
 
 // The pair at a place, low byte first.
@@ -49,9 +46,19 @@ pub fn pair_at(s: &[u8], at: usize) -> u16
     ensures { result ≡ pair_at s.now at }
 {
     if has_pair(s, at) {
-        return pair_within(s, at);
+        pair_within(s, at)
+    } else {
+        byte_at(s, at) as u16
     }
-    byte_at(s, at) as u16
+}
+
+// The place behind the list at a place, which is no further than items and their lists go.
+fn behind(s: &[u8], at: u32) -> u32
+    requires { at ≤ 1000000 }
+    ensures place { result ≡ past s.now at }
+    ensures near { result ≤ at + 131072 }
+{
+    at + 2 + 2 * (pair_at(s, at as usize) as u32)
 }
 
 // Where the contents say that body i starts, rows first.
@@ -59,4 +66,11 @@ pub fn offset(s: &[u8], i: u32) -> u16
     ensures { result ≡ offset s.now i }
 {
     pair_at(s, 4 + 2 * (i as usize))
+}
+
+// A fault at a place.
+fn refusal(fault: Fault, position: usize) -> Step
+    ensures { result ≡ refusal fault position }
+{
+    Err(Refusal { fault, position })
 }

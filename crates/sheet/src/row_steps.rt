@@ -1,41 +1,50 @@
 // Reads the type rows.
 ghost use Rattle.std.specs.Prelude.{◌≡◌, ◌≤◌};
 ghost use Rattle.rules.specs.Format.{with_flags, signature, body_of, row, row_at, each};
+ghost use Rattle.rules.specs.Kinds.{row_number};
 ghost use Rattle.sheet.specs.Keys.{placed};
 
 use crate::fresh_rows::{fresh, keys_of};
-use crate::steps::{NAMES, ROW_KINDS, limited, then_limited, then_list, then_or_none};
-use crate::{offset, pair_at};
-use rules::{Step, limit, row};
+use crate::steps::{NAMES, ROW_KINDS, limited, list, or_none};
+use crate::{offset, pair_at, refusal};
+use rules::row::RowKind;
+use rules::{Fault, Step, limit};
 
 // Flags, or an array's length, and a row below r.
 fn with_flags(s: &[u8], flags: u32, r: u16, at: usize) -> Step
     ensures { result ≡ with_flags s.now flags r at }
 {
-    then_limited(s, limited(s, 6, flags, at), 7, r as u32)
+    let at = limited(s, Fault::BadValue, flags, at)?;
+    limited(s, Fault::BadRow, r as u32, at)
 }
 
 // Flags, a return row or none, and the argument rows.
 fn signature(s: &[u8], r: u16, at: usize) -> Step
     ensures { result ≡ signature s.now r at }
 {
-    let flags = limited(s, 6, 4, at);
-    let result = then_or_none(s, flags, r as u32);
-    then_list(s, result, limit::ARGS, 7, r as u32)
+    let at = limited(s, Fault::BadValue, 4, at)?;
+    let at = or_none(s, r as u32, at)?;
+    list(s, limit::ARGS, Fault::BadRow, r as u32, at)
 }
 
-// The body of row r after its kind k.
-fn body(s: &[u8], r: u16, k: u16, at: usize) -> Step
-    ensures { result ≡ body_of s.now r k at }
+// The body of row r after its kind.
+#[tactic(auto, unfolding(rules::specs::Format::body_of, rules::specs::Format::row_kinds))]
+fn body(s: &[u8], r: u16, k: RowKind, at: usize) -> Step
+    ensures { result ≡ body_of s.now r (row_number k) at }
 {
     match k {
-        row::IDENT => limited(s, 6, NAMES, at),
-        row::RUST_BOX..=row::CXX_VECTOR => limited(s, 7, r as u32, at),
-        row::REF => with_flags(s, 4, r, at),
-        row::PTR | row::SLICE_REF => with_flags(s, 2, r, at),
-        row::ARRAY => with_flags(s, 65536, r, at),
-        row::FN => signature(s, r, at),
-        _ => Step::Next(at),
+        RowKind::Ident => limited(s, Fault::BadValue, NAMES, at),
+        RowKind::RustBox
+        | RowKind::RustVec
+        | RowKind::UniquePtr
+        | RowKind::SharedPtr
+        | RowKind::WeakPtr
+        | RowKind::CxxVector => limited(s, Fault::BadRow, r as u32, at),
+        RowKind::Ref => with_flags(s, 4, r, at),
+        RowKind::Ptr | RowKind::SliceRef => with_flags(s, 2, r, at),
+        RowKind::Array => with_flags(s, 65536, r, at),
+        RowKind::Fn => signature(s, r, at),
+        RowKind::Str | RowKind::Void => Ok(at),
     }
 }
 
@@ -43,12 +52,11 @@ fn body(s: &[u8], r: u16, k: u16, at: usize) -> Step
 fn row(s: &[u8], r: u16, at: usize) -> Step
     ensures { result ≡ row s.now r at }
 {
-    let first = limited(s, 6, ROW_KINDS, at);
-    let Step::Next(p) = first else {
-        return first;
-    };
-    let k = pair_at(s, at);
-    body(s, r, k, p)
+    let next = limited(s, Fault::BadValue, ROW_KINDS, at)?;
+    match RowKind::from_number(pair_at(s, at)) {
+        Some(k) => body(s, r, k, next),
+        None => Ok(next),
+    }
 }
 
 // Row r with its offset.
@@ -56,10 +64,7 @@ fn placed(s: &[u8], r: u16, at: usize) -> Step
     ensures { result ≡ placed s.now r at }
 {
     if offset(s, r as u32) as usize != at {
-        return Step::Refused {
-            number: 5,
-            position: 4 + 2 * (r as usize),
-        };
+        return refusal(Fault::Misplaced, 4 + 2 * (r as usize));
     }
     row(s, r, at)
 }
@@ -75,23 +80,15 @@ pub fn all_rows(s: &[u8], n: u16, at: usize) -> Step
     let mut seen = [0; 16384];
     let mut here = at;
     for r in 0..n {
-        let step = placed(s, r, here);
-        let Step::Next(p) = step else {
-            return step;
-        };
-        let two = keys_of(s, here, p);
-        if fresh(s, &keys, &more, &seen, r, two, p) {
-            let k = two.first;
-            keys[r as usize] = k;
-            more[r as usize] = two.second;
-            seen[k as usize % 16384] = 1;
-            here = p;
-        } else {
-            return Step::Refused {
-                number: 8,
-                position: here,
-            };
+        let next = placed(s, r, here)?;
+        let two = keys_of(s, here, next);
+        if !fresh(s, &keys, &more, &seen, r, two, next) {
+            return refusal(Fault::EqualRow, here);
         }
+        keys[r as usize] = two.first;
+        more[r as usize] = two.second;
+        seen[two.first as usize % 16384] = 1;
+        here = next;
     }
-    Step::Next(here)
+    Ok(here)
 }

@@ -1,10 +1,10 @@
 // The steps that every body is read by: a pair below a limit, a row or none, a list. Each goes from a place to the place after what it read,
-// or to a refusal; a `then_` step goes on from a step that may have been refused.
+// or to a refusal.
 ghost use Rattle.std.specs.Prelude.{◌≡◌};
-ghost use Rattle.rules.specs.Format.{after, limited, or_none, list};
+ghost use Rattle.rules.specs.Format.{limited, or_none, list};
 
-use crate::{has_pair, pair_at, pair_within};
-use rules::{Step, derive, item, limit, name, row};
+use crate::{has_pair, pair_at, pair_within, refusal};
+use rules::{Fault, Step, derive, item, limit, name, row};
 
 // What pairs are limited by: the numbers of rules, as wide as a limit.
 pub const NAMES: u32 = name::COUNT as u32;
@@ -19,23 +19,17 @@ pub const DERIVE_KINDS: u32 = derive::KINDS as u32;
 
 pub const VARIANT_COUNTS: u32 = limit::VARIANTS as u32 + 1;
 
-// A pair below a limit, or the refusal `why` at the pair.
-pub fn limited(s: &[u8], why: u8, limit: u32, at: usize) -> Step
+// A pair below a limit, or the fault `why` at the pair.
+pub fn limited(s: &[u8], why: Fault, limit: u32, at: usize) -> Step
     ensures { result ≡ limited s.now why limit at }
 {
-    if has_pair(s, at) {
-        if (pair_within(s, at) as u32) < limit {
-            return Step::Next(at + 2);
-        }
-        return Step::Refused {
-            number: why,
-            position: at,
-        };
+    if !has_pair(s, at) {
+        return refusal(Fault::Misplaced, s.len());
     }
-    Step::Refused {
-        number: 5,
-        position: s.len(),
+    if (pair_within(s, at) as u32) < limit {
+        return Ok(at + 2);
     }
+    refusal(why, at)
 }
 
 // A row below a limit, or none.
@@ -43,56 +37,20 @@ pub fn or_none(s: &[u8], limit: u32, at: usize) -> Step
     ensures { result ≡ or_none s.now limit at }
 {
     if pair_at(s, at) == row::NONE {
-        limited(s, 7, 65536, at)
+        limited(s, Fault::BadRow, 65536, at)
     } else {
-        limited(s, 7, limit, at)
+        limited(s, Fault::BadRow, limit, at)
     }
 }
 
 // A count of at most `most`, and as many pairs below a limit.
-pub fn list(s: &[u8], most: u16, why: u8, limit: u32, at: usize) -> Step
+pub fn list(s: &[u8], most: u16, why: Fault, limit: u32, at: usize) -> Step
     ensures { result ≡ list s.now most why limit at }
 {
-    let first = limited(s, 6, most as u32 + 1, at);
-    let Step::Next(p) = first else {
-        return first;
-    };
-    let mut left = pair_at(s, at);
-    let mut here = p;
-    while 0 < left {
-        let step = limited(s, why, limit, here);
-        let Step::Next(q) = step else {
-            return step;
-        };
-        here = q;
-        left -= 1;
+    let mut here = limited(s, Fault::BadValue, most as u32 + 1, at)?;
+    let count = pair_at(s, at);
+    for _ in 0..count {
+        here = limited(s, why, limit, here)?;
     }
-    Step::Next(here)
-}
-
-pub fn then_limited(s: &[u8], from: Step, why: u8, limit: u32) -> Step
-    ensures { result ≡ after from (limited s.now why limit) }
-{
-    match from {
-        Step::Next(at) => limited(s, why, limit, at),
-        Step::Refused { .. } => from,
-    }
-}
-
-pub fn then_or_none(s: &[u8], from: Step, limit: u32) -> Step
-    ensures { result ≡ after from (or_none s.now limit) }
-{
-    match from {
-        Step::Next(at) => or_none(s, limit, at),
-        Step::Refused { .. } => from,
-    }
-}
-
-pub fn then_list(s: &[u8], from: Step, most: u16, why: u8, limit: u32) -> Step
-    ensures { result ≡ after from (list s.now most why limit) }
-{
-    match from {
-        Step::Next(at) => list(s, most, why, limit, at),
-        Step::Refused { .. } => from,
-    }
+    Ok(here)
 }

@@ -16,8 +16,8 @@ module _ {s d : List ℕ} (held : RowTable s (plain_lead s (types_of s)) d) wher
   pub plain-led : Accepted s → Led s d
   plain-led acc = record { accepted = acc; table = plain-table s acc d held }
 
-  module _ {b : List ℕ} {cx : Errors} {r : Sorted} {b' : List ℕ} (h : Sorts s d b cx r b') where
-    pub plain-sorts : SortsBy (walk_of s (types_of s)) b cx r b'
+  module _ {cx : Errors} {r : Sorted} {cx' : Errors} (h : Sorts s d cx r cx') where
+    pub plain-sorts : SortsBy (walk_of s (types_of s)) cx r cx'
     unfolding walk_of
     plain-sorts = h.sorts (plain_lead s (types_of s)) held
 

@@ -16,15 +16,17 @@ use Rattle.laws.specs.Left.{fresh}
 use Rattle.laws.proofs.Base.Counts.{fresh_set, fresh-set-le}
 use Rattle.laws.proofs.Graph.Chains.{Good}
 use Rattle.errors.specs.Sink.{also, silent}
+use Rattle.errors.specs.declared.Errors.{Errors}
 use Rattle.toposort.specs.declared.Walk.{Walk}
 use Rattle.toposort.specs.State.{Did, Room}
 
 -- ## One part after another
 
-pub did-still : (b o : List ℕ) (v : Walk) → Did b o v (still v.marks) v b o
-did-still b o v = record { marks = refl; order = refl; len = omega arith; calls = omega arith; errors = silent b v.errors }
+pub did-still : (b : Errors) (o : List ℕ) (v : Walk) → Did b o v (still v.marks) v b o
+did-still b o v = record { marks = refl; order = refl; len = omega arith; calls = omega arith; errors = silent b }
 
-pub did-join : {b b' b'' o o' o'' : List ℕ} {v r r' : Walk} {a c : Out} → Did b o v a r b' o' → Did b' o' r c r' b'' o'' → Did b o v (join a c) r' b'' o''
+pub did-join : {b b' b'' : Errors} {o o' o'' : List ℕ} {v r r' : Walk} {a c : Out} → Did b o v a r b' o' → Did b' o' r c r' b'' o''
+    → Did b o v (join a c) r' b'' o''
 did-join {o = o} {v = v} {a = a} {c = c} p q =
     record {
       marks = q.marks;
@@ -111,7 +113,7 @@ module _ {G : Graph} (lim : Bounded G) where
       rw (← add-one i) (spends-join a (spends-item f i (items_out f G i m).marks (a.long ∙ h)))
 
 -- what is left after a part
-pub room_after : {b b' o o' : List ℕ} {v r : Walk} {a : Out} {q l : ℕ} → Room v (q + l) → Spends q v.marks a → Did b o v a r b' o' → Room r l
+pub room_after : {b b' : Errors} {o o' : List ℕ} {v r : Walk} {a : Out} {q l : ℕ} → Room v (q + l) → Spends q v.marks a → Did b o v a r b' o' → Room r l
 room_after {v = v} {r} {a} h p d =
     let m : fresh r.marks ≡ fresh a.marks = ap fresh d.marks in
     record { len = omega (arith, h.len, p.places, d.len); calls = omega (arith, h.calls, p.calls, d.calls) }

@@ -29,19 +29,19 @@ use Rattle.toposort.specs.Post.{SortsBy, PlainRule, Sorts}
 use Rattle.toposort.proofs.Parts.{did-still, did-join, Spends, Bounded, spends-items, room_after}
 
 -- nothing is marked
-abbrev pub begun : Errors → Walk
-begun cx = record { marks = replicate 255 0; len = 0; calls = 0; errors = cx; ok = true }
+abbrev pub begun : Walk
+begun = record { marks = replicate 255 0; len = 0; calls = 0; ok = true }
 
 -- the first i items are walked
-pub record Sorting (G : Graph) (b : List ℕ) (cx : Errors) (i : ℕ) (b' o' : List ℕ) (v : Walk) : Type 0 where
+pub record Sorting (G : Graph) (b : Errors) (i : ℕ) (b' : Errors) (o' : List ℕ) (v : Walk) : Type 0 where
   pub upto : i ≤ 255
-  pub did : Did b (replicate 255 0) (begun cx) (items_out 256 G i (replicate 255 0)) v b' o'
+  pub did : Did b (replicate 255 0) begun (items_out 256 G i (replicate 255 0)) v b' o'
 
-pub sorting-none : (G : Graph) (b : List ℕ) (cx : Errors) → Sorting G b cx 0 b (replicate 255 0) (begun cx)
+pub sorting-none : (G : Graph) (b : Errors) → Sorting G b 0 b (replicate 255 0) begun
 unfolding items_out
-sorting-none G b cx = record { upto = omega arith; did = did-still b (replicate 255 0) (begun cx) }
+sorting-none G b = record { upto = omega arith; did = did-still b (replicate 255 0) begun }
 
-module _ {G : Graph} (lim : Bounded G) {b : List ℕ} {cx : Errors} {i : ℕ} {b' o' : List ℕ} {v : Walk} (g : Sorting G b cx i b' o' v) (l : i < 255) where
+module _ {G : Graph} (lim : Bounded G) {b : Errors} {i : ℕ} {b' : Errors} {o' : List ℕ} {v : Walk} (g : Sorting G b i b' o' v) (l : i < 255) where
   zeros : List ℕ
   zeros = replicate 255 0
 
@@ -59,7 +59,7 @@ module _ {G : Graph} (lim : Bounded G) {b : List ℕ} {cx : Errors} {i : ℕ} {b
       let m : fresh v.marks ≡ fresh (items_out 256 G i (replicate 255 0)).marks = ap fresh g.did.marks in
       omega (arith, spent.places, fresh-zeros 255)
 
-  on : (r : Walk) (b'' o'' : List ℕ) → Did b' o' v (item_out 256 G i v.marks) r b'' o'' → Sorting G b cx (i + 1) b'' o'' r
+  on : (r : Walk) (b'' : Errors) (o'' : List ℕ) → Did b' o' v (item_out 256 G i v.marks) r b'' o'' → Sorting G b (i + 1) b'' o'' r
   unfolding items_out
   on r b'' o'' d =
       record {
@@ -67,29 +67,29 @@ module _ {G : Graph} (lim : Bounded G) {b : List ℕ} {cx : Errors} {i : ℕ} {b
         did = rw add-one (did-join g.did (subst (λ (x : List ℕ). Did b' o' v (item_out 256 G i x) r b'' o'') g.did.marks d));
       }
 
-  pub sorting-other : G.struct i ≡ false → Sorting G b cx (i + 1) b' o' v
+  pub sorting-other : G.struct i ≡ false → Sorting G b (i + 1) b' o' v
   unfolding item_out
   sorting-other e = on v b' o' (rw (e, item_out) (did-still b' o' v))
 
-  pub sorting-struct : (r : Walk) (b'' o'' : List ℕ) → G.struct i ≡ true → Visits G b' o' v i r b'' o'' → Sorting G b cx (i + 1) b'' o'' r
+  pub sorting-struct : (r : Walk) (b'' : Errors) (o'' : List ℕ) → G.struct i ≡ true → Visits G b' o' v i r b'' o'' → Sorting G b (i + 1) b'' o'' r
   unfolding item_out
   sorting-struct r b'' o'' e d = on r b'' o'' (rw (e, item_out) (d 256 sorting-fresh).did)
 
-module _ {s d : List ℕ} (own : Led s d) {b : List ℕ} {cx : Errors} {i : ℕ} {b' o' : List ℕ} {v : Walk} (g : Sorting (table_graph s d) b cx i b' o' v)
+module _ {s d : List ℕ} (own : Led s d) {b : Errors} {i : ℕ} {b' : Errors} {o' : List ℕ} {v : Walk} (g : Sorting (table_graph s d) b i b' o' v)
     (h : 255 ≤ i) where
   abbrev answer : Sorted
-  answer = record { order = o'; len = v.len; calls = v.calls; errors = v.errors }
+  answer = record { order = o'; len = v.len; calls = v.calls }
 
-  by-table : SortsBy (sort_out (table_graph s d) most_items) b cx answer b'
+  by-table : SortsBy (sort_out (table_graph s d) most_items) b answer b'
   unfolding sort_out
   by-table =
       let e : i ≡ 255 = omega (arith, g.upto) in
       let w = items_out 256 (table_graph s d) 255 (replicate 255 0) in
-      let p = subst (λ (x : ℕ). Did b (replicate 255 0) (begun cx) (items_out 256 (table_graph s d) x (replicate 255 0)) v b' o') e g.did in
+      let p = subst (λ (x : ℕ). Did b (replicate 255 0) begun (items_out 256 (table_graph s d) x (replicate 255 0)) v b' o') e g.did in
       record { order = p.order ∙ sym (places-sets w.sorted); len = p.len ∙ omega arith; calls = p.calls ∙ omega arith; errors = p.errors }
 
   -- the same of every function that the table holds
-  by-lead : (lead : (row : ℕ) → ℕ) → RowTable s lead d → SortsBy (sort_out (graph_by s lead) most_items) b cx answer b'
+  by-lead : (lead : (row : ℕ) → ℕ) → RowTable s lead d → SortsBy (sort_out (graph_by s lead) most_items) b answer b'
   by-lead lead held = rw (table-walk s d lead held own.accepted own.table most_items) by-table
 
   by-plain : RowTable s (plain_lead s (types_of s)) d → PlainRule s o'
@@ -97,5 +97,5 @@ module _ {s d : List ℕ} (own : Led s d) {b : List ℕ} {cx : Errors} {i : ℕ}
   by-plain held =
       record { order = rw (by-lead (plain_lead s (types_of s)) held).order (plain-order s own.accepted); cyclic = walk-cyclic-is s own.accepted }
 
-  pub sorted : Sorts s d b cx answer b'
-  sorted = record { sorts = by-lead; plain = by-plain }
+  pub sorted : Sorts s d b answer b'
+  sorted = record { sorts = by-lead; plain = by-plain; same = g.did.errors.same }

@@ -8,8 +8,9 @@ use mathlib.Core.List.{List}
 use native.Mathlib.Numerals.{add-one}
 use native.Mathlib.Omega.{arith}
 use borrow.Author.Tests.{eq-eqb, ne_eqb}
-use lib.ListN.{length, get_or, set, replicate}
+use lib.ListN.{length, get_or, set, take, replicate}
 use lib.Seq.{get_or-set_same, get_or-set_other}
+use Rattle.std.proofs.lemmas.List.{get_or-take, length-take}
 use Rattle.rules.specs.Numbers.{most_items}
 use Rattle.rules.specs.View.{items}
 use Rattle.rules.specs.Count.{count}
@@ -34,17 +35,6 @@ use Rattle.laws.proofs.Rule3.Due.{plain-tiers}
 use Rattle.toposort.specs.Leads.{Led, table_graph, Ups}
 use Rattle.toposort.specs.Post.{Ordered, Tiered}
 use Rattle.toposort.proofs.Edges.{own-good, whole, struct-below}
-
--- ## What a field gives
-
-pub up-full : (t : ℕ) → t ≡ 255 → 255 ≡ up t
-up-full t e = rw e
-
-pub up-high : (t : ℕ) → t ≢ 255 → t ≡ 254 → 254 ≡ up t
-up-high t ne e = rw e
-
-pub up-low : (t : ℕ) → t ≢ 255 → t ≢ 254 → t < 256 → t + 1 ≡ up t
-up-low t ne h l = rw (ne_eqb t 255 ne) (omega arith)
 
 -- ## The fields of an item
 
@@ -104,10 +94,9 @@ module _ (G : Graph) (t : List ℕ) (i : ℕ) (u : List ℕ) (h : u ≡ start_to
 
 -- ## The pass
 
-pub tiers-on : (G : Graph) (o t u : List ℕ) (p x : ℕ) → u ≡ tiers_to G o p t → x ≡ tier_from G u (get_or o p 0)
-    → set u (get_or o p 0) x ≡ tiers_to G o (p + 1) t
+pub tiers-on : (G : Graph) (o t u : List ℕ) (p i x : ℕ) → u ≡ tiers_to G o p t → i ≡ get_or o p 0 → x ≡ tier_from G u i → set u i x ≡ tiers_to G o (p + 1) t
 unfolding tiers_to
-tiers-on G o t u p x h e = rw (add-one, tiers_to, ← h, e)
+tiers-on G o t u p i x h q e = rw (add-one, tiers_to, ← h, ← q, e)
 
 module _ {s d : List ℕ} (led : Led s d) {o : List ℕ} {n : ℕ} (own : Ordered s d o n) where
   abbrev G : Graph
@@ -134,25 +123,37 @@ module _ {s d : List ℕ} (led : Led s d) {o : List ℕ} {n : ℕ} (own : Ordere
   front : (p : ℕ) → get_or o p 0 ≡ get_or sorted p 0
   front p = ap (λ (l : List ℕ). get_or l p 0) (own.order ∙ ap places one-walk) ∙ places-get sorted few p
 
-  pub place-struct : (p : ℕ) → p < n → IsStruct s (get_or o p 0)
-  unfolding sorted
-  place-struct p l =
-      let x = get_or sorted p 0 in
-      let c : 0 < count x sorted = count-get sorted p (omega (arith, len_is)) in
-      let e = each-once G most_items (whole led) x in
-      let no : G.struct x ≡ false → ⊥ = λ t. let z : count x sorted ≡ 0 = rw t at e in omega arith in
-      rw (front p) (both (G.struct x) (λ t. (struct_is s x).0 (holds t)) (λ t. absurd (no t)))
+  -- the item at a place, as the code reads it off the places that count
+  module _ (p : ℕ) (l : p < length (take n o)) where
+    abbrev place : ℕ
+    place = get_or (take n o) p 0
 
-  pub place-below : (p : ℕ) → p < n → get_or o p 0 < most_items
-  place-below p l = struct-below led (get_or o p 0) (place-struct p l)
+    counts : p < n
+    counts = omega (arith, length-take n o)
 
-  pub tiers-end : (t : List ℕ) (p : ℕ) → p ≤ n → n ≤ p → t ≡ tiers_to (table_graph s d) o p (start_to (table_graph s d) 255 (replicate 255 0)) → Tiered s d t
+    pub place-is : place ≡ get_or o p 0
+    place-is = let c = counts in get_or-take n o p 0 c
+
+    pub place-struct : IsStruct s place
+    unfolding sorted
+    place-struct =
+        let x = get_or sorted p 0 in
+        let c : 0 < count x sorted = count-get sorted p (omega (arith, len_is, counts)) in
+        let e = each-once G most_items (whole led) x in
+        let no : G.struct x ≡ false → ⊥ = λ t. let z : count x sorted ≡ 0 = rw t at e in omega arith in
+        rw (place-is ∙ front p) (both (G.struct x) (λ t. (struct_is s x).0 (holds t)) (λ t. absurd (no t)))
+
+    pub place-below : place < most_items
+    place-below = struct-below led place place-struct
+
+  pub tiers-end : length o ≡ 255 → (t : List ℕ) (p : ℕ) → p ≤ length (take n o) → length (take n o) ≤ p
+      → t ≡ tiers_to (table_graph s d) o p (start_to (table_graph s d) 255 (replicate 255 0)) → Tiered s d t
   unfolding sorted pass_of
-  tiers-end t p l m h = record { tiers = by-lead; rule = λ held. rw (by-lead (plain_lead s (types_of s)) held) (plain-tiers s led.accepted) }
+  tiers-end f t p l m h = record { tiers = by-lead; rule = λ held. rw (by-lead (plain_lead s (types_of s)) held) (plain-tiers s led.accepted) }
     where
       by-table : t ≡ places (tiers_of G (items s))
       by-table =
-          let z : p ≡ length sorted = omega (arith, len_is) in
+          let z : p ≡ length sorted = omega (arith, len_is, order-fits, length-take n o) in
           h ∙ rw z (pass-front G 255 o sorted (length sorted) (λ q _. front q) ∙ pass-is G (items s) (own-good led) (whole led))
 
       by-lead : (lead : (row : ℕ) → ℕ) → RowTable s lead d → t ≡ places (tiers_of (graph_by s lead) (items s))

@@ -26,26 +26,23 @@ use Rattle.toposort.proofs.Parts.{did-still, did-join, Spends, Bounded, spends-f
 -- ## One field
 
 -- a is done after v, and `ok` says whether both succeeded
-pub record Stepped (b o : List ℕ) (v : Walk) (a : Out) (r : Walk) (b' o' : List ℕ) : Type 0 where
+pub record Stepped (b : Errors) (o : List ℕ) (v : Walk) (a : Out) (r : Walk) (b' : Errors) (o' : List ℕ) : Type 0 where
   pub did : Did b o v a r b' o'
   pub ok : r.ok ≡ v.ok && a.ok
 
-abbrev pub Steps : Graph → (b o : List ℕ) → Walk → (i k : ℕ) → Walk → (b' o' : List ℕ) → Type 0
+abbrev pub Steps : Graph → (b : Errors) (o : List ℕ) → Walk → (i k : ℕ) → Walk → (b' : Errors) (o' : List ℕ) → Type 0
 Steps G b o v i k r b' o' = (f : ℕ) → fresh v.marks < f → Stepped b o v (field_out (visit_out f G) G i k v.marks) r b' o'
 
 -- a field that leads nowhere
-pub step-none : (G : Graph) (b o : List ℕ) (v : Walk) (i k : ℕ) → G.to i k ≡ 255 → Steps G b o v i k v b o
+pub step-none : (G : Graph) (b : Errors) (o : List ℕ) (v : Walk) (i k : ℕ) → G.to i k ≡ 255 → Steps G b o v i k v b o
 unfolding field_out
 step-none G b o v i k e f h = rw (eq-eqb (G.to i k) 255 e, field_out) (record { did = did-still b o v; ok = sym (and-true v.ok) })
 
 abbrev pub put-ok : Walk → Bool → Walk
-put-ok w x = record { marks = w.marks; len = w.len; calls = w.calls; errors = w.errors; ok = x }
-
-abbrev pub put-errors : Walk → Errors → Walk
-put-errors w e = record { marks = w.marks; len = w.len; calls = w.calls; errors = e; ok = w.ok }
+put-ok w x = record { marks = w.marks; len = w.len; calls = w.calls; ok = x }
 
 -- a field whose struct was visited
-module _ (G : Graph) (b b' o o' : List ℕ) (v r : Walk) (i k : ℕ) (e : G.to i k ≡ 255 → ⊥) (d : Visits G b o v (G.to i k) r b' o') where
+module _ (G : Graph) (b b' : Errors) (o o' : List ℕ) (v r : Walk) (i k : ℕ) (e : G.to i k ≡ 255 → ⊥) (d : Visits G b o v (G.to i k) r b' o') where
   pub step_ok : r.ok ≡ true → Steps G b o v i k (put-ok r v.ok) b' o'
   unfolding field_out
   step_ok t f h =
@@ -58,9 +55,9 @@ module _ (G : Graph) (b b' o o' : List ℕ) (v r : Walk) (i k : ℕ) (e : G.to i
         ok = rw q (sym (and-true v.ok));
       })
 
-  pub step-bad : (x : Errors) (b'' : List ℕ) → r.ok ≡ false → Reported b' r.errors (say 2 (F i k)) x b'' → Steps G b o v i k (put-errors r x) b'' o'
+  pub step-bad : (b'' : Errors) → r.ok ≡ false → Reported b' (say 2 (F i k)) b'' → Steps G b o v i k r b'' o'
   unfolding field_out
-  step-bad x b'' t g f h =
+  step-bad b'' t g f h =
       let a = visit_out f G v.marks (G.to i k) in
       let p = (d f h).did in
       let q : a.ok ≡ false = sym (d f h).ok ∙ t in
@@ -73,7 +70,7 @@ module _ (G : Graph) (b b' o o' : List ℕ) (v r : Walk) (i k : ℕ) (e : G.to i
 -- ## The fields
 
 -- k of the n fields of item i are done
-pub record Going (G : Graph) (b o : List ℕ) (i : ℕ) (v₀ : Walk) (n k : ℕ) (b' o' : List ℕ) (v : Walk) : Type 0 where
+pub record Going (G : Graph) (b : Errors) (o : List ℕ) (i : ℕ) (v₀ : Walk) (n k : ℕ) (b' : Errors) (o' : List ℕ) (v : Walk) : Type 0 where
   pub all : n ≡ G.fields i
   pub upto : k ≤ n
   pub long : length v₀.marks ≡ 255
@@ -81,7 +78,8 @@ pub record Going (G : Graph) (b o : List ℕ) (i : ℕ) (v₀ : Walk) (n k : ℕ
   pub place : v₀.len + fresh v₀.marks < 255
   pub done : (f : ℕ) → fresh v₀.marks < f → Done b o v₀ (fields_out (visit_out f G) G i k v₀.marks) v b' o'
 
-module _ {G : Graph} (lim : Bounded G) {b o : List ℕ} {i : ℕ} {v₀ : Walk} {n k : ℕ} {b' o' : List ℕ} {v : Walk} (g : Going G b o i v₀ n k b' o' v) where
+module _ {G : Graph} (lim : Bounded G) {b : Errors} {o : List ℕ} {i : ℕ} {v₀ : Walk} {n k : ℕ} {b' : Errors} {o' : List ℕ} {v : Walk}
+    (g : Going G b o i v₀ n k b' o' v) where
   enough : ℕ
   enough = suc (fresh v₀.marks)
 
@@ -111,7 +109,7 @@ module _ {G : Graph} (lim : Bounded G) {b o : List ℕ} {i : ℕ} {v₀ : Walk} 
   pub going-len : v.len < 255
   going-len = omega (arith, did.len, spent.places, g.place)
 
-  pub going_on : (r : Walk) (b'' o'' : List ℕ) → k < n → Steps G b' o' v i k r b'' o'' → Going G b o i v₀ n (k + 1) b'' o'' r
+  pub going_on : (r : Walk) (b'' : Errors) (o'' : List ℕ) → k < n → Steps G b' o' v i k r b'' o'' → Going G b o i v₀ n (k + 1) b'' o'' r
   unfolding fields_out
   going_on r b'' o'' h d = record { all = g.all; upto = omega arith; long = g.long; room = g.room; place = g.place; done = next }
     where
@@ -127,20 +125,20 @@ module _ {G : Graph} (lim : Bounded G) {b o : List ℕ} {i : ℕ} {v₀ : Walk} 
 -- ## A visit
 
 -- of a struct that was met before
-pub visit-seen : (G : Graph) (b o : List ℕ) (w : Walk) (i : ℕ) → (get_or w.marks i 0 ≡ 0 → ⊥)
-    → Visits G b o w i (record { marks = w.marks; len = w.len; calls = w.calls + 1; errors = w.errors; ok = eqb (get_or w.marks i 0) 2 }) b o
+pub visit-seen : (G : Graph) (b : Errors) (o : List ℕ) (w : Walk) (i : ℕ) → (get_or w.marks i 0 ≡ 0 → ⊥)
+    → Visits G b o w i (record { marks = w.marks; len = w.len; calls = w.calls + 1; ok = eqb (get_or w.marks i 0) 2 }) b o
 unfolding visit_out
 visit-seen G b o w i e zero h = absurd (not-suc-le-zero h)
 visit-seen G b o w i e (suc f) h =
     rw (ne_eqb (get_or w.marks i 0) 0 e, visit_out)
-    (record { did = record { marks = refl; order = refl; len = omega arith; calls = refl; errors = silent b w.errors }; ok = refl })
+    (record { did = record { marks = refl; order = refl; len = omega arith; calls = refl; errors = silent b }; ok = refl })
 
 -- a field whose struct was marked: its visit is counted, and no more is done
-module _ (G : Graph) (b o : List ℕ) (v : Walk) (i k : ℕ) (e : G.to i k ≡ 255 → ⊥) (x : ℕ) (q : x ≡ G.to i k) (m : get_or v.marks x 0 ≡ 0 → ⊥)
+module _ (G : Graph) (b : Errors) (o : List ℕ) (v : Walk) (i k : ℕ) (e : G.to i k ≡ 255 → ⊥) (x : ℕ) (q : x ≡ G.to i k) (m : get_or v.marks x 0 ≡ 0 → ⊥)
     (n : ℕ) (y : Bool) (c : n ≡ v.calls + 1) (z : y ≡ eqb (get_or v.marks x 0) 2) where
   -- as the code leaves the state
   abbrev counted : Bool → Walk
-  counted a = record { marks = v.marks; len = v.len; calls = n; errors = v.errors; ok = a }
+  counted a = record { marks = v.marks; len = v.len; calls = n; ok = a }
 
   seen-marked : Visits G b o v (G.to i k) (counted y) b o
   seen-marked = rw (← q, z, c) (visit-seen G b o v x m)
@@ -148,18 +146,18 @@ module _ (G : Graph) (b o : List ℕ) (v : Walk) (i k : ℕ) (e : G.to i k ≡ 2
   pub met-ok : y ≡ true → Steps G b o v i k (counted v.ok) b o
   met-ok t = step_ok G b b o o v (counted y) i k e seen-marked t
 
-  pub met-bad : (a : Errors) (b'' : List ℕ) → y ≡ false → Reported b v.errors (say 2 (F i k)) a b''
-      → Steps G b o v i k (record { marks = v.marks; len = v.len; calls = n; errors = a; ok = false }) b'' o
-  met-bad a b'' t g = rw (← t) (step-bad G b b o o v (counted y) i k e seen-marked a b'' t g)
+  pub met-bad : (b'' : Errors) → y ≡ false → Reported b (say 2 (F i k)) b''
+      → Steps G b o v i k (record { marks = v.marks; len = v.len; calls = n; ok = false }) b'' o
+  met-bad b'' t g = rw (← t) (step-bad G b b o o v (counted y) i k e seen-marked b'' t g)
 
 -- of a new one, as its fields begin, and as they end
 abbrev pub entered : Walk → ℕ → Walk
-entered w i = record { marks = set w.marks i 1; len = w.len; calls = w.calls + 1; errors = w.errors; ok = true }
+entered w i = record { marks = set w.marks i 1; len = w.len; calls = w.calls + 1; ok = true }
 
 abbrev pub closed : Walk → ℕ → Walk
-closed w i = record { marks = set w.marks i 2; len = w.len + 1; calls = w.calls; errors = w.errors; ok = w.ok }
+closed w i = record { marks = set w.marks i 2; len = w.len + 1; calls = w.calls; ok = w.ok }
 
-done-finished : {b b' o o' : List ℕ} (w : Walk) (i : ℕ) {a : Out} {v : Walk} → Done b o (entered w i) a v b' o'
+done-finished : {b b' : Errors} {o o' : List ℕ} (w : Walk) (i : ℕ) {a : Out} {v : Walk} → Done b o (entered w i) a v b' o'
     → Done b o w (finished i a) (closed v i) b' (set o' v.len i)
 done-finished {o = o} w i {a} {v} d =
     let p = d.did in
@@ -175,7 +173,7 @@ done-finished {o = o} w i {a} {v} d =
       ok = d.ok;
     }
 
-pub visit-new : {G : Graph} {b b' o o' : List ℕ} (w : Walk) (i n k : ℕ) {v : Walk} → get_or w.marks i 0 ≡ 0 → i < length w.marks
+pub visit-new : {G : Graph} {b b' : Errors} {o o' : List ℕ} (w : Walk) (i n k : ℕ) {v : Walk} → get_or w.marks i 0 ≡ 0 → i < length w.marks
     → Going G b o i (entered w i) n k b' o' v → n ≤ k → Visits G b o w i (closed v i) b' (set o' v.len i)
 unfolding visit_out
 visit-new w i n k e hi g hp zero h = absurd (not-suc-le-zero h)

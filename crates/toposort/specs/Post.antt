@@ -16,20 +16,22 @@ use Rattle.errors.specs.Sink.{Reported}
 use Rattle.toposort.specs.declared.Sorted.{Sorted}
 
 -- the order of a walk, the visits that it took and its messages 2
-pub record SortsBy (w : Out) (b : List ℕ) (cx : Errors) (r : Sorted) (b' : List ℕ) : Type 0 where
+pub record SortsBy (w : Out) (cx : Errors) (r : Sorted) (cx' : Errors) : Type 0 where
   pub order : r.order ≡ places w.sorted
   pub len : r.len ≡ length w.sorted
   pub calls : r.calls ≡ w.calls
-  pub errors : Reported b cx w.errors r.errors b'
+  pub errors : Reported cx w.errors cx'
 
 -- rule 3 of an order, and of the messages that come with it
 pub record PlainRule (s o : List ℕ) : Type 0 where
   pub order : OrderRule s (Holds s) o
   pub cyclic : Cyclic s (walk_of s (types_of s)).errors
 
-pub record Sorts (s d : List ℕ) (b : List ℕ) (cx : Errors) (r : Sorted) (b' : List ℕ) : Type 0 where
-  pub sorts : (lead : (row : ℕ) → ℕ) → RowTable s lead d → SortsBy (sort_out (graph_by s lead) most_items) b cx r b'
+pub record Sorts (s d : List ℕ) (cx : Errors) (r : Sorted) (cx' : Errors) : Type 0 where
+  pub sorts : (lead : (row : ℕ) → ℕ) → RowTable s lead d → SortsBy (sort_out (graph_by s lead) most_items) cx r cx'
   pub plain : RowTable s (plain_lead s (types_of s)) d → PlainRule s r.order
+  -- whatever the table holds, the errors go to the same buffer
+  pub same : cx'.out.ghost_name ≡ cx.out.ghost_name
 
 -- the lent order is that of a function that the table holds, and so is the number of its places that count
 pub record Ordered (s d o : List ℕ) (n : ℕ) : Type 0 where

@@ -1,12 +1,11 @@
 -- The fields of a struct that have a fault, one after the other. A field without one has no message: so the messages of the fields before the next one with a
 -- fault are those that there were, and behind the last one no message follows.
 -- Assumes nothing.
-use Prim.Native.Nat.{ℕ, ◌+◌, ◌-◌, ◌/◌, ◌^◌, ◌≤◌, ◌<◌}
+use Prim.Native.Nat.{ℕ, ◌+◌, ◌-◌, ◌*◌, ◌^◌, ◌≤◌, ◌<◌}
 use mathlib.Core.Path.{◌≡◌, refl, sym, ◌∙◌}
 use mathlib.Core.List.{List, []}
 use mathlib.Core.Bool.{false}
 use native.Mathlib.Omega.{arith}
-use lib.Count.{count_trailing_zeros}
 use lib.ListN.{get_or}
 use borrow.Author.Tests.{eqb-true, not-false}
 use Rattle.rules.specs.declared.Diagnostic.{Diagnostic}
@@ -16,9 +15,9 @@ use Rattle.rules.specs.View.{rest, field_count, field, entry}
 use Rattle.laws.specs.RowTable.{read_at}
 use Rattle.laws.specs.Word.{word_of}
 use Rattle.laws.proofs.Base.Lists.{over_skip}
-use Rattle.laws.proofs.Base.Words.{NextOf, next_of, word_none}
+use Rattle.laws.proofs.Base.Words.{NextOf, next_of, none_left}
 use Rattle.laws.proofs.Rows.RowTable.{read-in}
-use Rattle.row_tables.specs.Listed.{ListIn, unlike_at}
+use Rattle.row_tables.specs.Listed.{ListIn, LowestOut, unlike_at}
 use Rattle.errors.specs.declared.Errors.{Errors}
 use Rattle.errors.specs.Sink.{Reported, meant}
 use Rattle.typecheck.specs.Tests.{by_fault, struct_field, struct_fields}
@@ -27,17 +26,17 @@ use Rattle.typecheck.specs.Tests.{by_fault, struct_field, struct_fields}
 abbrev pub field_says : (s faults : List ℕ) (i j : ℕ) → List Diagnostic
 field_says s u i j = struct_field i j (read_at u (field s i j))
 
--- the n fields of struct i stand at a place of the sheet, and `left` is the word of the faults from field k on
+-- the n fields of struct i stand at a place of the sheet, and `left` has the bits of the faults from field k on
 pub record FaultsLeft (s u : List ℕ) (i at n k left : ℕ) : Type 0 where
   pub place : at ≡ rest s i
   pub count : n ≡ field_count s i
   pub list : ListIn s at n
   pub within : k ≤ n
-  pub word : left ≡ word_of (unlike_at s u at 0) k (n - k)
+  pub word : left ≡ 2 ^ k * word_of (unlike_at s u at 0) k (n - k)
 
--- field k + z is the next that has a fault
-abbrev pub Next : (s u : List ℕ) (at n k left z : ℕ) → Type 0
-Next s u at n k left z = NextOf (unlike_at s u at 0) k n left z
+-- field j is the next that has a fault
+abbrev pub Next : (s u : List ℕ) (at n k rest j : ℕ) → Type 0
+Next s u at n k rest j = NextOf (unlike_at s u at 0) k n rest j
 
 module _ (s : List ℕ) (i : ℕ) {at n : ℕ} (h : ListIn s (rest s i) (field_count s i)) (a : at ≡ rest s i) (q : n ≡ pair_at s at) where
   pub fields_in : ListIn s at n
@@ -48,7 +47,7 @@ module _ (s : List ℕ) (i : ℕ) {at n : ℕ} (h : ListIn s (rest s i) (field_c
   unfolding field_count
   all_left u e =
       let all : n - 0 ≡ n = omega arith in
-      record { place = a; count = rw a at q; list = fields_in; within = omega arith; word = rw all e }
+      record { place = a; count = rw a at q; list = fields_in; within = omega arith; word = rw all (omega (arith, e)) }
 
 module _ {s u : List ℕ} {i at n k left : ℕ} (f : FaultsLeft s u i at n k left) where
   pub fault-is : (j : ℕ) → j < n → get_or u (entry s at j) 0 ≡ read_at u (field s i j)
@@ -61,23 +60,25 @@ module _ {s u : List ℕ} {i at n k left : ℕ} (f : FaultsLeft s u i at n k lef
       let none : read_at u (field s i j) ≡ 0 = sym (fault-is j l) ∙ eqb-true _ _ (not-false _ h) in
       rw none refl
 
-  pub next-fault : {z : ℕ} → (left ≡ 0 → ⊥) → z ≡ count_trailing_zeros 64 left → Next s u at n k left z
-  next-fault {z} h g = next_of (unlike_at s u at 0) k n left z f.list.few f.word h g
+  pub next-fault : {rest j : ℕ} → LowestOut left rest j → Next s u at n k rest j
+  next-fault o = next_of (unlike_at s u at 0) k n left _ _ f.list.few f.within f.word o.some o.lowest o.others
 
-  pub less-left : {z w : ℕ} → Next s u at n k left z → w ≡ left / 2 ^ z / 2 → FaultsLeft s u i at n (k + z + 1) w
-  less-left next e =
-      record { place = f.place; count = f.count; list = f.list; within = omega (arith, next.within); word = e ∙ next.behind }
+  pub less-left : {rest j : ℕ} → Next s u at n k rest j → FaultsLeft s u i at n (j + 1) rest
+  less-left next = record { place = f.place; count = f.count; list = f.list; within = omega (arith, next.within); word = next.behind }
 
-  module _ {b b' : List ℕ} {cx cx' : Errors} (so_far : Reported b cx (over k (field_says s u i)) cx' b') where
-    pub to-next : {z : ℕ} → Next s u at n k left z → Reported b cx (over (k + z) (field_says s u i)) cx' b'
-    to-next {z} next =
+  module _ {cx cx' : Errors} (so_far : Reported cx (over k (field_says s u i)) cx') where
+    pub to-next : {rest j : ℕ} → Next s u at n k rest j → Reported cx (over j (field_says s u i)) cx'
+    to-next {j = j} next =
         let l = next.within in
-        meant so_far (over_skip (field_says s u i) k z (λ j m. no-fault (k + j) (omega arith) (next.before j m)))
+        let here : k + (j - k) ≡ j = omega (arith, next.from) in
+        let before =
+        over_skip (field_says s u i) k (j - k) (λ d m. no-fault (k + d) (omega arith) (next.before (k + d) (omega arith) (omega arith))) in
+        meant so_far (rw here at before)
 
-    pub to_end : left ≡ 0 → Reported b cx (struct_fields s u i) cx' b'
+    pub to_end : left ≡ 0 → Reported cx (struct_fields s u i) cx'
     unfolding struct_fields
     to_end e =
-        let none = word_none (unlike_at s u at 0) k (n - k) (sym f.word ∙ e) in
+        let none = none_left (unlike_at s u at 0) k (n - k) (sym f.word ∙ e) in
         let all : k + (n - k) ≡ field_count s i = omega (arith, f.within, f.count) in
         let skip = over_skip (field_says s u i) k (n - k) (λ j l. no-fault (k + j) (omega arith) (none j l)) in
         meant so_far (rw all at skip)

@@ -1,6 +1,5 @@
-pub mod ByKind
-pub mod Conjunction
 pub mod DeriveLaws
 pub mod Faults
 pub mod Faulty
+pub mod GivenParts
 pub mod Meant

@@ -7,9 +7,9 @@ use crate::derives::{Owner, check_derives};
 use crate::reserved::check_lifetimes;
 use errors::Errors;
 
-pub fn check_api_type_alias(s: &[u8], cx: Errors, out: &mut [u8], i: u16) -> Errors
-    ensures { (t : Types) → Reported out.old cx (check_api_type_alias s.now t i) result out.new }
+pub fn check_api_type_alias(s: &[u8], cx: &mut Errors<'_>, i: u16)
+    ensures { (t : Types) → Reported cx.old (check_api_type_alias s.now t i) cx.new }
 {
-    let cx = check_lifetimes(s, cx, out, i);
-    check_derives(s, cx, out, Owner::Alias, i)
+    check_lifetimes(s, cx, i);
+    check_derives(s, cx, Owner::Alias, i)
 }

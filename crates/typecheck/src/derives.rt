@@ -5,10 +5,10 @@ ghost use Rattle.errors.specs.Sink.{Reported};
 ghost use Rattle.typecheck.specs.Derives.{struct_derive, enum_derive, opaque_derive, derived, all_derived};
 
 use errors::Errors;
-use errors::at::derive_error;
-use rules::{derive, item};
+use errors::at::At;
+use rules::derive;
+use rules::item::ItemKind;
 use sheet::items::{derives_place, entry, enum_defaults, item_is};
-use sheet::logic::and;
 use sheet::pair_at;
 
 // Whose derives they are: those of an extern type may be of Rust or of C++.
@@ -20,74 +20,60 @@ pub enum Owner {
     Alias,
 }
 
-// BitAnd, BitOr, BitXor.
+// BitAnd, BitOr, BitXor. A derive stays a number: of the 15 only five have a rule, so that an enum of all would be no plainer.
 fn is_bit(what: u16) -> bool
     ensures { result ≡ is_bit what }
 {
-    and(derive::BIT_AND <= what, what <= derive::BIT_XOR)
+    derive::BIT_AND <= what && what <= derive::BIT_XOR
 }
 
-fn check_struct_derive(cx: Errors, out: &mut [u8], i: u16, j: u16, what: u16) -> Errors
-    ensures { Reported out.old cx (struct_derive i j what) result out.new }
+fn check_struct_derive(cx: &mut Errors<'_>, i: u16, j: u16, what: u16)
+    ensures { Reported cx.old (struct_derive i j what) cx.new }
 {
     let bits = is_bit(what);
     let external = what == derive::EXTERN_TYPE;
-    let cx = derive_error(cx, out, bits, 29, i, j, 0);
-    derive_error(cx, out, external, 30, i, j, 0)
+    cx.error_if(bits, 29, At::Derive(i, j), 0);
+    cx.error_if(external, 30, At::Derive(i, j), 0)
 }
 
 // Only Default asks for the count of default variants.
-fn check_enum_derive(s: &[u8], cx: Errors, out: &mut [u8], i: u16, j: u16, what: u16) -> Errors
-    ensures { Reported out.old cx (enum_derive i j what s.now) result out.new }
+fn check_enum_derive(s: &[u8], cx: &mut Errors<'_>, i: u16, j: u16, what: u16)
+    ensures { Reported cx.old (enum_derive i j what s.now) cx.new }
 {
     if what == derive::DEFAULT {
         let defaults = enum_defaults(s, i);
-        return derive_error(cx, out, defaults != 1, 34, i, j, defaults);
+        return cx.error_if(defaults != 1, 34, At::Derive(i, j), defaults);
     }
-    derive_error(cx, out, what == derive::EXTERN_TYPE, 35, i, j, 0)
+    cx.error_if(what == derive::EXTERN_TYPE, 35, At::Derive(i, j), 0)
 }
 
 // ExternType may be derived of a type of Rust, and nothing else of any.
-fn check_opaque_derive(s: &[u8], cx: Errors, out: &mut [u8], i: u16, j: u16, what: u16) -> Errors
-    ensures { Reported out.old cx (opaque_derive i j what s.now) result out.new }
+fn check_opaque_derive(s: &[u8], cx: &mut Errors<'_>, i: u16, j: u16, what: u16)
+    ensures { Reported cx.old (opaque_derive i j what s.now) cx.new }
 {
-    let rust = item_is(s, item::RUST_TYPE, i);
-    let allowed = and(what == derive::EXTERN_TYPE, rust);
-    derive_error(cx, out, !allowed, 36, i, j, 0)
+    let allowed = what == derive::EXTERN_TYPE && item_is(s, ItemKind::RustType, i);
+    cx.error_if(!allowed, 36, At::Derive(i, j), 0)
 }
 
 // Derive j of item i.
-fn check_derive(
-    s: &[u8],
-    cx: Errors,
-    out: &mut [u8],
-    owner: Owner,
-    i: u16,
-    j: u16,
-    what: u16,
-) -> Errors
-    ensures { Reported out.old cx (derived s.now owner i j what) result out.new }
+#[tactic(auto, unfolding(crate::specs::Derives::derived, rules::specs::Diagnostics::when))]
+fn check_derive(s: &[u8], cx: &mut Errors<'_>, owner: Owner, i: u16, j: u16, what: u16)
+    ensures { Reported cx.old (derived s.now owner i j what) cx.new }
 {
     match owner {
-        Owner::Struct => check_struct_derive(cx, out, i, j, what),
-        Owner::Enum => check_enum_derive(s, cx, out, i, j, what),
-        Owner::Extern => check_opaque_derive(s, cx, out, i, j, what),
-        Owner::Alias => derive_error(cx, out, true, 52, i, j, 0),
+        Owner::Struct => check_struct_derive(cx, i, j, what),
+        Owner::Enum => check_enum_derive(s, cx, i, j, what),
+        Owner::Extern => check_opaque_derive(s, cx, i, j, what),
+        Owner::Alias => cx.error(52, At::Derive(i, j), 0),
     }
 }
 
 // All derives of item i.
-pub fn check_derives(s: &[u8], cx: Errors, out: &mut [u8], owner: Owner, i: u16) -> Errors
-    ensures { Reported out.old cx (all_derived s.now owner i) result out.new }
+pub fn check_derives(s: &[u8], cx: &mut Errors<'_>, owner: Owner, i: u16)
+    ensures { Reported cx.old (all_derived s.now owner i) cx.new }
 {
     let at = derives_place(s, i);
-    let n = pair_at(s, at as usize);
-    let mut e = cx;
-    let mut j: u16 = 0;
-    while j < n {
-        let k = j;
-        j += 1;
-        e = check_derive(s, e, out, owner, i, k, entry(s, at, k));
+    for j in 0..pair_at(s, at as usize) {
+        check_derive(s, cx, owner, i, j, entry(s, at, j));
     }
-    e
 }

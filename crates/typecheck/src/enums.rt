@@ -6,16 +6,15 @@ ghost use Rattle.errors.specs.Sink.{Reported};
 use crate::derives::{Owner, check_derives};
 use crate::reserved::{check_lifetimes, check_reserved_name};
 use errors::Errors;
-use errors::at::item_error;
+use errors::at::At;
 use sheet::items::{enum_explicit, enum_variants};
-use sheet::logic::and;
 
-pub fn check_api_enum(s: &[u8], cx: Errors, out: &mut [u8], i: u16) -> Errors
-    ensures { (t : Types) → Reported out.old cx (check_api_enum s.now t i) result out.new }
+pub fn check_api_enum(s: &[u8], cx: &mut Errors<'_>, i: u16)
+    ensures { (t : Types) → Reported cx.old (check_api_enum s.now t i) cx.new }
 {
-    let cx = check_reserved_name(s, cx, out, i);
-    let cx = check_lifetimes(s, cx, out, i);
-    let bare = and(enum_variants(s, i) == 0, !enum_explicit(s, i));
-    let cx = item_error(cx, out, bare, 33, i, 0);
-    check_derives(s, cx, out, Owner::Enum, i)
+    check_reserved_name(s, cx, i);
+    check_lifetimes(s, cx, i);
+    let bare = enum_variants(s, i) == 0 && !enum_explicit(s, i);
+    cx.error_if(bare, 33, At::Item(i), 0);
+    check_derives(s, cx, Owner::Enum, i)
 }

@@ -7,27 +7,25 @@ ghost use Rattle.typecheck.specs.Tests.{required_type};
 use crate::derives::{Owner, check_derives};
 use crate::reserved::{check_lifetimes, check_reserved_name};
 use errors::Errors;
-use errors::at::item_error;
+use errors::at::At;
 use names::known::{Names, is_required_trivial, reasons_for};
 use sheet::items::{item_name, type_bounds};
 
 // A type that is used where it must be trivial.
-fn check_required_trivial(s: &[u8], names: &Names, cx: Errors, out: &mut [u8], i: u16) -> Errors
-    ensures { Reported out.old cx
-        (required_type s.now (tabled s.now names.now) i) result out.new }
+fn check_required_trivial(s: &[u8], names: &Names, cx: &mut Errors<'_>, i: u16)
+    ensures { Reported cx.old (required_type s.now (tabled s.now names.now) i) cx.new }
 {
     let n = item_name(s, i);
     let required = is_required_trivial(names, n);
-    item_error(cx, out, required, 38, i, reasons_for(names, n))
+    cx.error_if(required, 38, At::Item(i), reasons_for(names, n))
 }
 
-pub fn check_api_type(s: &[u8], names: &Names, cx: Errors, out: &mut [u8], i: u16) -> Errors
-    ensures { Reported out.old cx
-        (check_api_type s.now (tabled s.now names.now) i) result out.new }
+pub fn check_api_type(s: &[u8], names: &Names, cx: &mut Errors<'_>, i: u16)
+    ensures { Reported cx.old (check_api_type s.now (tabled s.now names.now) i) cx.new }
 {
-    let cx = check_reserved_name(s, cx, out, i);
-    let cx = check_lifetimes(s, cx, out, i);
-    let cx = check_derives(s, cx, out, Owner::Extern, i);
-    let cx = item_error(cx, out, type_bounds(s, i), 37, i, 0);
-    check_required_trivial(s, names, cx, out, i)
+    check_reserved_name(s, cx, i);
+    check_lifetimes(s, cx, i);
+    check_derives(s, cx, Owner::Extern, i);
+    cx.error_if(type_bounds(s, i), 37, At::Item(i), 0);
+    check_required_trivial(s, names, cx, i)
 }

@@ -7,64 +7,60 @@ ghost use Rattle.errors.specs.Sink.{Reported};
 ghost use Rattle.typecheck.specs.Tests.{undeclared, fn_kind};
 
 use errors::Errors;
-use errors::at::item_error;
+use errors::at::At;
 use names::known::{Names, is_cxx, is_enum, is_opaque, is_rust, is_struct};
 use rules::name;
 use sheet::functions::{is_free, is_method, receiver_mutable, receiver_pinned, self_type};
-use sheet::logic::and;
 
 // A name that no struct, CxxType, RustType or alias declares.
 fn is_undeclared(names: &Names, n: u16) -> bool
     ensures { (s : List ℕ) → result ≡ undeclared (tabled s names.now) n }
 {
-    let a = and(!is_struct(names, n), !is_cxx(names, n));
-    and(a, !is_rust(names, n))
+    !is_struct(names, n) && !is_cxx(names, n) && !is_rust(names, n)
 }
 
 fn is_unpinned_receiver(s: &[u8], i: u16) -> bool
     ensures { result ≡ (receiver_mutable s.now i && not (receiver_pinned s.now i)) }
 {
-    and(receiver_mutable(s, i), !receiver_pinned(s, i))
+    receiver_mutable(s, i) && !receiver_pinned(s, i)
 }
 
-fn check_fn_receiver(s: &[u8], names: &Names, cx: Errors, out: &mut [u8], i: u16) -> Errors
-    ensures { Reported out.old cx
-        (check_fn_receiver s.now (tabled s.now names.now) i) result out.new }
+fn check_fn_receiver(s: &[u8], names: &Names, cx: &mut Errors<'_>, i: u16)
+    ensures { Reported cx.old (check_fn_receiver s.now (tabled s.now names.now) i) cx.new }
 {
     let n = self_type(s, i);
     if n == name::SELF {
-        return item_error(cx, out, true, 41, i, 0);
+        return cx.error(41, At::Item(i), 0);
     }
     if is_enum(names, n) {
-        return item_error(cx, out, true, 42, i, 0);
+        return cx.error(42, At::Item(i), 0);
     }
     if is_undeclared(names, n) {
-        return item_error(cx, out, true, 43, i, 0);
+        return cx.error(43, At::Item(i), 0);
     }
-    let pin = and(is_unpinned_receiver(s, i), is_opaque(names, n));
-    item_error(cx, out, pin, 44, i, 0)
+    let pin = is_unpinned_receiver(s, i) && is_opaque(names, n);
+    cx.error_if(pin, 44, At::Item(i), 0)
 }
 
-fn check_fn_self_type(s: &[u8], names: &Names, cx: Errors, out: &mut [u8], i: u16) -> Errors
-    ensures { Reported out.old cx
-        (check_fn_self_type s.now (tabled s.now names.now) i) result out.new }
+fn check_fn_self_type(s: &[u8], names: &Names, cx: &mut Errors<'_>, i: u16)
+    ensures { Reported cx.old (check_fn_self_type s.now (tabled s.now names.now) i) cx.new }
 {
     let n = self_type(s, i);
     if is_enum(names, n) {
-        return item_error(cx, out, true, 45, i, 0);
+        return cx.error(45, At::Item(i), 0);
     }
-    item_error(cx, out, is_undeclared(names, n), 46, i, 0)
+    cx.error_if(is_undeclared(names, n), 46, At::Item(i), 0)
 }
 
 // By the kind of function i: a method, free, or associated.
-pub fn check_fn_kind(s: &[u8], names: &Names, cx: Errors, out: &mut [u8], i: u16) -> Errors
-    ensures { Reported out.old cx (fn_kind s.now (tabled s.now names.now) i) result out.new }
+pub fn check_fn_kind(s: &[u8], names: &Names, cx: &mut Errors<'_>, i: u16)
+    ensures { Reported cx.old (fn_kind s.now (tabled s.now names.now) i) cx.new }
 {
     if is_method(s, i) {
-        return check_fn_receiver(s, names, cx, out, i);
+        return check_fn_receiver(s, names, cx, i);
     }
     if is_free(s, i) {
-        return cx;
+        return;
     }
-    check_fn_self_type(s, names, cx, out, i)
+    check_fn_self_type(s, names, cx, i)
 }

@@ -5,35 +5,30 @@ ghost use Rattle.errors.specs.Sink.{Reported};
 ghost use Rattle.typecheck.specs.Tests.{reserved_lifetime};
 
 use errors::Errors;
-use errors::at::{item_error, lifetime_error};
+use errors::at::At;
 use rules::{derive, name};
 use sheet::items::{entry, item_name, lifetimes_place};
 use sheet::pair_at;
 
-pub fn check_reserved_name(s: &[u8], cx: Errors, out: &mut [u8], i: u16) -> Errors
-    ensures { (t : Types) → Reported out.old cx (check_reserved_name s.now t i) result out.new }
+#[tactic(auto, unfolding(rules::specs::Check::check_reserved_name, rules::specs::Names::is_reserved))]
+pub fn check_reserved_name(s: &[u8], cx: &mut Errors<'_>, i: u16)
+    ensures { (t : Types) → Reported cx.old (check_reserved_name s.now t i) cx.new }
 {
-    item_error(cx, out, item_name(s, i) < name::RESERVED, 57, i, 0)
+    cx.error_if(item_name(s, i) < name::RESERVED, 57, At::Item(i), 0)
 }
 
-fn check_reserved_lifetime(cx: Errors, out: &mut [u8], i: u16, j: u16, what: u16) -> Errors
-    ensures { Reported out.old cx (reserved_lifetime i j what) result out.new }
+fn check_reserved_lifetime(cx: &mut Errors<'_>, i: u16, j: u16, what: u16)
+    ensures { Reported cx.old (reserved_lifetime i j what) cx.new }
 {
-    lifetime_error(cx, out, what == derive::STATIC, 58, i, j, 0)
+    cx.error_if(what == derive::STATIC, 58, At::Lifetime(i, j), 0)
 }
 
 // Also `check_generics`: a sheet's generics are lifetimes.
-pub fn check_lifetimes(s: &[u8], cx: Errors, out: &mut [u8], i: u16) -> Errors
-    ensures { (t : Types) → Reported out.old cx (check_lifetimes s.now t i) result out.new }
+pub fn check_lifetimes(s: &[u8], cx: &mut Errors<'_>, i: u16)
+    ensures { (t : Types) → Reported cx.old (check_lifetimes s.now t i) cx.new }
 {
     let at = lifetimes_place(s, i);
-    let n = pair_at(s, at as usize);
-    let mut e = cx;
-    let mut j: u16 = 0;
-    while j < n {
-        let k = j;
-        j += 1;
-        e = check_reserved_lifetime(e, out, i, k, entry(s, at, k));
+    for j in 0..pair_at(s, at as usize) {
+        check_reserved_lifetime(cx, i, j, entry(s, at, j));
     }
-    e
 }

@@ -1,3 +1,2 @@
-pub mod ByKind
-pub mod Details
+pub mod Reports
 pub mod UnsizedTable

@@ -1,7 +1,7 @@
 -- Reasons are counted one list after another, and no count changes what the table says of extern C++ types (`extern-same`); a list of reasons by the tests
 -- that the code makes; and where a sheet's reasons are few enough, the counts that stop are the rules' own (`tally-counts`).
 -- Assumes nothing.
-use Prim.Native.Nat.{ℕ, zero, suc, ◌+◌, ◌*◌, ◌≤◌, ◌<◌}
+use Prim.Native.Nat.{ℕ, zero, suc, ◌+◌, ◌*◌, ◌≤◌, ◌<◌, min}
 use mathlib.Core.Path.{◌≡◌, refl, sym, ap, ap₂, ◌∙◌}
 use mathlib.Core.Logic.{◌≢◌}
 use mathlib.Core.Bool.{Bool, true, false, not, ◌||◌}
@@ -24,7 +24,7 @@ use Rattle.rules.specs.Types.{is_extern, reasons_for}
 use Rattle.laws.proofs.Base.Counts.{Eq?, same, other, eq?}
 use Rattle.names.specs.Known.{column_count, table_size, entry_at, names_in, tabled, entered}
 use Rattle.names.proofs.Columns.{entry-out, count-is, entered-out, entered-long, entered_here, entered-there, entered-other, column-same}
-use Rattle.row_tables.specs.Tables.{one_of}
+use Rattle.std.specs.Prelude.{Option}
 use Rattle.types.specs.Reasons.{most_reasons, one_more, tally, Tallied, Wants, of_plain, of_return, of_item, of_row, of_all}
 
 -- ## One list after another
@@ -72,7 +72,7 @@ pub tally-by : (s : List ℕ) {w ns u v : List ℕ} (f : (ℕ → Bool) → List
 tally-by s f p q = rw (← (extern-same s p)) q
 
 -- and the table of the names that rows want
-pub wants-same : (s : List ℕ) {w ns u : List ℕ} (table : List ℕ) → Tallied w ns u → Wants s w table → Wants s u table
+pub wants-same : (s : List ℕ) {w ns u : List ℕ} (table : List (Option ℕ)) → Tallied w ns u → Wants s w table → Wants s u table
 wants-same s table p h = rw (extern-same s p) h
 
 module _ (f : ℕ → List ℕ) where
@@ -89,20 +89,21 @@ module _ (f : ℕ → List ℕ) where
 
 -- ## A row
 
+-- as the code counts one more
+pub counted-once : {x y : ℕ} → x < 65536 → y ≡ min (x + 1) most_reasons → y ≡ one_more x
+unfolding one_more if'◌then◌else◌
+counted-once {x} {y} h e = go (dec_lt x most_reasons)
+  where
+    go : Dec (x < most_reasons) → y ≡ (if' ltb x most_reasons then x + 1 else x)
+    go (yes l) = rw (lt-ltb x most_reasons l) (omega arith)
+    go (no l) = rw (le-ltb x most_reasons (omega arith)) (omega arith)
+
 -- one reason for a name
 pub name-counted : (s w : List ℕ) (n : ℕ) {x y : ℕ} {u : List ℕ} → x ≡ reasons_for (tabled s w) n → y ≡ one_more x → u ≡ entered w required_trivial_set true n y
-    → Tallied w (one_of n) u
-unfolding tally one_of if'◌then◌else◌ reasons_for tabled
-name-counted s w n {x} {y} {u} had more is = go (dec_lt n name_count)
-  where
-    next : u ≡ counted w n
-    next = is ∙ ap (entered w reasons true n) (more ∙ ap one_more (had ∙ count-is w reasons n))
-
-    go : Dec (n < name_count) → Tallied w (if' ltb n name_count then n ∷ [] else []) u
-    go (yes l) = rw (lt-ltb n name_count l) (record { is = next })
-    go (no l) =
-        rw (le-ltb n name_count (omega arith))
-        (record { is = next ∙ sym (entered-out w reasons n (one_more (entry_at w reasons n)) refl (omega arith)) })
+    → Tallied w (n ∷ []) u
+unfolding tally reasons_for tabled
+name-counted s w n had more is =
+    record { is = is ∙ ap (entered w reasons true n) (more ∙ ap one_more (had ∙ count-is w reasons n)) }
 
 module _ (s w : List ℕ) (r : ℕ) where
   pub return-none : r ≡ no_row → Tallied w (of_return s w r) w
@@ -114,10 +115,10 @@ module _ (s w : List ℕ) (r : ℕ) where
   return-some h p = rw (ne_eqb r no_row h) p
 
   -- a collected row
-  module _ {k : ℕ} {a b : Bool} (is_kind : k ≡ kind s r) (first : a ≡ (eqb k RustBox || eqb k RustVec)) (second : b ≡ (a || eqb k SliceRef)) where
+  module _ {k : ℕ} {b : Bool} (is_kind : k ≡ kind s r) (test : b ≡ (eqb k RustBox || eqb k RustVec || eqb k SliceRef)) where
     holder-is : b ≡ (is s RustBox r || is s RustVec r || is s SliceRef r)
     unfolding is
-    holder-is = rw (first, is_kind) at second
+    holder-is = rw is_kind at test
 
     pub row-none : b ≡ false → Tallied w (of_row s w r) w
     unfolding reasons_of_row if'◌then◌else◌

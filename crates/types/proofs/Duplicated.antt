@@ -2,7 +2,7 @@
 -- Assumes nothing.
 use Prim.Native.Nat.{ℕ, ◌<◌}
 use mathlib.Core.Path.{◌≡◌, refl, sym, ap, ◌∙◌}
-use mathlib.Core.Bool.{Bool, true, false, not, ◌&&◌, ◌||◌}
+use mathlib.Core.Bool.{Bool, true, false, not, ◌&&◌, ◌||◌, or-true}
 use mathlib.Core.List.{List}
 use native.Mathlib.Omega.{arith}
 use lib.Dec.{ltb, eqb}
@@ -54,28 +54,32 @@ module _ {s w : List ℕ} {i n : ℕ} (h : KnownType s i n w) where
   unfolding duplicate_type if'◌then◌else◌
   type-new a e = rw (sym (known_in a) ∙ e) refl
 
-  module _ {known structs enums cxx : Bool} {k : ℕ} {enum shared : Bool} (is_Known : known ≡ ltb 0 (entry_at w type_column n)) (old : known ≡ true)
+  module _ {known structs enums cxx : Bool} {k : ℕ} {enum : Bool} (is_Known : known ≡ ltb 0 (entry_at w type_column n)) (old : known ≡ true)
       (in-structs : structs ≡ is_struct (tabled s w) n)
       (in-enums : enums ≡ is_enum (tabled s w) n)
       (in-cxx : cxx ≡ is_cxx (tabled s w) n)
       (kind : k ≡ item_kind s i)
-      (is-enum : enum ≡ enum_kind k)
-      (is_shared : shared ≡ (eqb k Struct || enum)) where
-    rule : duplicate_type s i ≡ type_by true shared (eqb k CxxType) structs enums cxx
+      (is-enum : enum ≡ enum_kind k) where
+    rule : duplicate_type s i ≡ type_by true (eqb k Struct || enum) (eqb k CxxType) structs enums cxx
     unfolding duplicate_type item_is is_enum_item
-    rule = rw (is_shared, is-enum, kind, structs-in in-structs, enums-in in-enums, cxx-in in-cxx, sym (known_in is_Known) ∙ old) refl
+    rule = rw (is-enum, kind, structs-in in-structs, enums-in in-enums, cxx-in in-cxx, sym (known_in is_Known) ∙ old) refl
 
-    pub type-shared : {r : Bool} → shared ≡ true → r ≡ (not cxx || structs || enums) → r ≡ duplicate_type s i
+    pub type-struct : {r : Bool} → k ≡ Struct → r ≡ (not cxx || structs || enums) → r ≡ duplicate_type s i
     unfolding if'◌then◌else◌
-    type-shared e q = q ∙ sym (rw e at rule)
+    type-struct e q = q ∙ sym (rw (eq-eqb k Struct e) at rule)
 
-    pub type-cxx : {r : Bool} → shared ≡ false → k ≡ CxxType → r ≡ (cxx || (not structs && not enums)) → r ≡ duplicate_type s i
+    pub type-enum : {r : Bool} → enum ≡ true → r ≡ (not cxx || structs || enums) → r ≡ duplicate_type s i
     unfolding if'◌then◌else◌
-    type-cxx e c q = q ∙ sym (rw (e, eq-eqb k CxxType c) at rule)
+    type-enum e q = q ∙ sym (rw (e, or-true (eqb k Struct)) at rule)
 
-    pub type-other : shared ≡ false → (k ≡ CxxType → ⊥) → true ≡ duplicate_type s i
-    unfolding if'◌then◌else◌
-    type-other e c = sym (rw (e, ne_eqb k CxxType c) at rule)
+    module _ (no_struct : k ≡ Struct → ⊥) (no-enum : enum ≡ false) where
+      pub type-cxx : {r : Bool} → k ≡ CxxType → r ≡ (cxx || (not structs && not enums)) → r ≡ duplicate_type s i
+      unfolding if'◌then◌else◌
+      type-cxx c q = q ∙ sym (rw (ne_eqb k Struct no_struct, no-enum, eq-eqb k CxxType c) at rule)
+
+      pub type-other : (k ≡ CxxType → ⊥) → true ≡ duplicate_type s i
+      unfolding if'◌then◌else◌
+      type-other c = sym (rw (ne_eqb k Struct no_struct, no-enum, ne_eqb k CxxType c) at rule)
 
 -- ## All items
 

@@ -3,13 +3,18 @@
 -- set is the rules' (`set_is`).
 -- Assumes nothing.
 use Prim.Native.Nat.{ℕ, zero, suc, ◌+◌, ◌≤◌, ◌<◌}
-use mathlib.Core.Path.{◌≡◌, sym, ◌∙◌}
+use mathlib.Core.Path.{◌≡◌, refl, sym, ◌∙◌}
 use mathlib.Core.Logic.{◌⊎◌, inl, inr}
 use mathlib.Core.Bool.{Bool, true, false, not, ◌&&◌, ◌||◌}
 use mathlib.Core.List.{List}
 use native.Mathlib.Omega.{arith}
 use lib.ListN.{length, replicate, length-replicate}
 use lib.Dec.{T, eqb, eqb→eq}
+use denote.Enum.Declared.{tag_of}
+use Rattle.rules.specs.contracts.item.ItemKind.{the_type}
+use Rattle.rules.specs.declared.item.ItemKind.{ItemKind}
+use Rattle.rules.specs.declared.item.ItemKind.TheVariants as variant
+use Rattle.rules.specs.Kinds.{item_number}
 use Rattle.rules.specs.Numbers.{Struct, Enum, CxxType, RustType, TypeAlias, name_count, most_items}
 use Rattle.rules.specs.Format.{Accepted}
 use Rattle.rules.specs.View.{type_kind, enum_kind, function_kind, items, item_kind, item_is, is_enum_item, is_type, is_function, item_name, type_trusted}
@@ -25,6 +30,21 @@ use Rattle.names.proofs.LastColumns.{names-are, column-start, column-skip, colum
 use Rattle.types.specs.Named.{Item, enters_column, Named}
 
 -- ## The tests by kinds
+
+-- `==` compares the numbers
+pub tag-is : (k : ItemKind) → tag_of the_type k ≡ item_number k
+tag-is variant.Include = refl
+tag-is variant.Struct = refl
+tag-is variant.Enum = refl
+tag-is variant.CxxType = refl
+tag-is variant.RustType = refl
+tag-is variant.CxxFunction = refl
+tag-is variant.RustFunction = refl
+tag-is variant.TypeAlias = refl
+tag-is variant.Impl = refl
+
+pub same-kind : (k : ItemKind) (n : ℕ) {b : Bool} → b ≡ eqb (tag_of the_type k) n → b ≡ eqb (item_number k) n
+same-kind k n e = rw (tag-is k) at e
 
 module _ {s : List ℕ} {i k n : ℕ} (h : Item s i k n) where
   pub is_struct : eqb k Struct ≡ enters_structs s i

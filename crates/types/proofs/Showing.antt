@@ -1,6 +1,6 @@
 -- What items show: where their rows stand, that this is inside the sheet, that these are rows of the sheet, and the walk over them by kinds.
 -- Assumes nothing.
-use Prim.Native.Nat.{ℕ, zero, suc, ◌+◌, ◌*◌, ◌<◌}
+use Prim.Native.Nat.{ℕ, zero, suc, ◌+◌, ◌*◌, ◌<◌, ◌≤◌}
 use mathlib.Core.Path.{◌≡◌, refl, sym, ap, ◌∙◌}
 use mathlib.Core.Bool.{Bool, true, false, ◌||◌}
 use mathlib.Core.List.{List, [], ◌∷◌, ◌++◌, foldl, foldl-append}
@@ -11,10 +11,13 @@ use lib.Dec.{eqb}
 use borrow.Author.Tests.{ne_eqb, eqb-true}
 use native.Mathlib.Nat.{le_refl}
 use mathlib.Core.Logic.{◌⊎◌, inl, inr}
+use Rattle.std.specs.Prelude.{Option, Some}
+use Rattle.rules.specs.declared.item.ItemKind.{ItemKind}
+use Rattle.rules.specs.Kinds.{item_kind as kind_of_item, item_number, item_kind-back}
 use Rattle.rules.specs.Numbers.{Struct, Enum, CxxFunction, RustFunction, Impl}
 use Rattle.rules.specs.Base.{over}
 use Rattle.rules.specs.Format.{pair_at, offset, Accepted}
-use Rattle.rules.specs.View.{enum_kind, function_kind, rows, past, entry, entries, or_nothing, items, item_place, item_kind, is_function}
+use Rattle.rules.specs.View.{function_kind, rows, past, entry, entries, or_nothing, items, item_place, item_kind, is_function}
 use Rattle.rules.specs.View.{rest, fields, field_count, field, enum_repr, receiver_place, form, return_place, return, arg_count, arg, args, impl_row}
 use Rattle.rules.specs.Collect.{shown_by}
 use Rattle.rules.specs.Types.{types_of}
@@ -100,16 +103,19 @@ module _ {s b : List ℕ} {n : ℕ} (i : ℕ) where
       kinds {k} e (inl t) = inl (sym e ∙ eqb-true k CxxFunction t)
       kinds {k} e (inr t) = inr (sym e ∙ eqb-true k RustFunction t)
 
-  pub none-shown : {k bound : ℕ} {u t : Bool} → Held s b n → k ≡ item_kind s i → (k ≡ Struct → ⊥) → u ≡ enum_kind k → u ≡ false → t ≡ function_kind k
-      → t ≡ false
-      → (k ≡ Impl → ⊥) → Walks s b b n bound (shown_by s i) n
-  none-shown {k} h p a e o q f g =
-      let v : eqb k Enum ≡ false = sym e ∙ o in
-      let u : (eqb k CxxFunction || eqb k RustFunction) ≡ false = sym q ∙ f in
-      rw (shown_by-other s i k (rw (ne_eqb k Struct a, v, u, ne_eqb k Impl g) refl) (sym p)) (still h.held)
+  -- the kinds that show nothing
+  pub none-shown : {k bound : ℕ} → Held s b n → k ≡ item_kind s i → (eqb k Struct || eqb k Enum || function_kind k || eqb k Impl) ≡ false
+      → Walks s b b n bound (shown_by s i) n
+  none-shown {k} h p e = rw (shown_by-other s i k e (sym p)) (still h.held)
 
-pub is-enum : {k : ℕ} {t : Bool} → t ≡ enum_kind k → t ≡ true → k ≡ Enum
-is-enum {k} q h = eqb-true k Enum (sym q ∙ h)
+  pub past-shown : {bound : ℕ} → Held s b n → 9 ≤ item_kind s i → Walks s b b n bound (shown_by s i) n
+  past-shown h l =
+      let not : (k : ℕ) → k < 9 → eqb (item_kind s i) k ≡ false = λ k m. ne_eqb (item_kind s i) k (λ q. omega arith) in
+      none-shown h refl (rw (not 1 (omega arith), not 2 (omega arith), not 5 (omega arith), not 6 (omega arith), not 8 (omega arith)))
+
+-- a kind that was read is that of the number
+pub kind-of : {n : ℕ} {o : Option ItemKind} {k : ItemKind} → o ≡ kind_of_item n → o ≡ Some k → n ≡ item_number k
+kind-of {n} e h = item_kind-back n (sym e ∙ h)
 
 pub is_function_lem : (s : List ℕ) (i : ℕ) {k : ℕ} {t : Bool} → k ≡ item_kind s i → t ≡ function_kind k → t ≡ true → is_function s i ≡ true
 unfolding is_function

@@ -142,18 +142,18 @@ module _ {s b d : List ℕ} {m : ℕ} (acc : Accepted s) (grown : Grown b d m (t
 
 -- ## All together
 
-pub whole : {s b w e d out out' : List ℕ} {cx cx' : Errors} {m : ℕ} {v u : List ℕ} → Collectable s b w → e ≡ cleared b → Grown e d m (types_of s).all
+pub whole : {s b w e d : List ℕ} {cx cx' : Errors} {m : ℕ} {v u : List ℕ} → Collectable s b w → e ≡ cleared b → Grown e d m (types_of s).all
     → length d ≡ length e
-    → Declared s v out cx out' cx'
+    → Declared s v cx cx'
     → Tallied v (of_all s v d m) u
-    → Collects s b d u out out' cx (record { rows = m; errors = cx' })
+    → Collects s b d u cx cx' m
 whole {s} {b} {m = m} h c g l n t =
     let few : m ≡ length (types_of s).all = holds-length g.held in
     record {
       known = known h.accepted g n.names t;
       columns = column-of h.accepted g n.names t;
       count = few;
-      rows = λ k p. holds_row g.held k (omega arith);
+      pairs = λ k p. holds_row g.held k (omega arith);
       marks = g.held.marks;
       same = l ∙ ap length c ∙ cleared-length b h.long;
       rest = rest-kept g l ∙ ap (drop marks_end) c;

@@ -99,6 +99,6 @@ pub record Nameable (s w : List ℕ) : Type 0 where
   pub names : Named s 0 w
 
 -- and ends with what all items do, and their duplicates reported
-pub record Declared (s w : List ℕ) (out : List ℕ) (cx : Errors) (out' : List ℕ) (cx' : Errors) : Type 0 where
+pub record Declared (s w : List ℕ) (cx : Errors) (cx' : Errors) : Type 0 where
   pub names : Named s (items s) w
-  pub reported : Reported out cx (duplicates s) cx' out'
+  pub reported : Reported cx (duplicates s) cx'

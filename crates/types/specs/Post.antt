@@ -13,7 +13,6 @@ use Rattle.names.specs.Known.{column_count, table_size, LastColumn, tabled}
 use Rattle.scratch.specs.Bytes.{marks_end, marked}
 use Rattle.errors.specs.declared.Errors.{Errors}
 use Rattle.errors.specs.Sink.{Reported}
-use Rattle.types.specs.declared.Collected.{Collected}
 use Rattle.types.specs.Named.{enters_column}
 
 -- a sheet that is accepted, a scratch that is long enough, and a table that has nothing
@@ -22,15 +21,15 @@ pub record Collectable (s scratch names : List ℕ) : Type 0 where
   pub long : scratch_size ≤ length scratch
   pub zeros : names ≡ replicate table_size 0
 
-pub record Collects (s scratch scratch' names' out out' : List ℕ) (cx : Errors) (r : Collected) : Type 0 where
+pub record Collects (s scratch scratch' names' : List ℕ) (cx cx' : Errors) (rows : ℕ) : Type 0 where
   pub known : tabled s names' ≡ types_of s
   -- every column but that of the reasons has the last item of each name that enters it, so the numbers of the items also where the rules ask for the set alone
   pub columns : (k : ℕ) → k ≢ required_trivial_set → k < column_count → LastColumn s (enters_column s k) (items s) names' k
-  pub count : r.rows ≡ length (types_of s).all
+  pub count : rows ≡ length (types_of s).all
   -- pair k of the scratch is row k of the collected ones, and the row is marked where it is one of them; the pairs of no row are left open
-  pub rows : (k : ℕ) → k < length (types_of s).all → pair_at scratch' (2 * k) ≡ get_or (types_of s).all k 0
+  pub pairs : (k : ℕ) → k < length (types_of s).all → pair_at scratch' (2 * k) ≡ get_or (types_of s).all k 0
   pub marks : (r : ℕ) → r < most_rows → marked scratch' r ≡ seen (types_of s).all r
   pub same : length scratch' ≡ length scratch
   -- what lies behind the rows and their marks was cleared, or left as it was past the bytes that a call asks for
   pub rest : drop marks_end scratch' ≡ drop marks_end (cleared scratch)
-  pub errors : Reported out cx (duplicates s) r.errors out'
+  pub errors : Reported cx (duplicates s) cx'

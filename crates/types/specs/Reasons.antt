@@ -1,7 +1,7 @@
 -- Reasons counted as the code counts them: in a column of the table of names, one more for each name of a list.
 -- Assumes nothing: these are definitions.
-use Rattle.std.specs.Prelude.{ℕ, ◌+◌, ◌*◌, ◌<◌, ◌≡◌, true, not, List, [], ◌∷◌, ◌++◌, ltb, eqb}
-use Rattle.rules.specs.Numbers.{no_row, required_trivial_set}
+use Rattle.std.specs.Prelude.{ℕ, ◌+◌, ◌*◌, ◌<◌, ◌≡◌, true, not, Bool, ◌||◌, List, [], ◌∷◌, ◌++◌, ltb, eqb, Option}
+use Rattle.rules.specs.Numbers.{RustBox, RustVec, SliceRef, no_row, required_trivial_set}
 use Rattle.rules.specs.Base.{if'◌then◌else◌, over}
 use Rattle.rules.specs.Format.{pair_at, Accepted}
 use Rattle.rules.specs.View.{entry, items}
@@ -27,25 +27,29 @@ tally w (n ∷ ns) = tally (entered w required_trivial_set true n (one_more (ent
 pub record Tallied (w ns u : List ℕ) : Type 0 where
   pub is : u ≡ tally w ns
 
+-- Box, Vec and slice give a reason for the name in them
+abbrev pub holder : (kind : ℕ) → Bool
+holder k = eqb k RustBox || eqb k RustVec || eqb k SliceRef
+
 -- the rules' lists of reasons, by what a table has of the names
 module _ (s w : List ℕ) where
   -- the table of the names that the rows want
-  abbrev pub Wants : (table : List ℕ) → Type 0
+  abbrev pub Wants : (table : List (Option ℕ)) → Type 0
   Wants table = WantRows s (tabled s w) table
 
   -- what the reasons of the list at a place need: that table, and entries that stand in the sheet
-  pub record WantsList (table : List ℕ) (at : ℕ) : Type 0 where
+  pub record WantsList (table : List (Option ℕ)) (at : ℕ) : Type 0 where
     pub wants : Wants table
     pub inside : Inside s at
 
   -- those of an item: that table, and an accepted sheet that has the item
-  pub record WantsItem (table : List ℕ) (i : ℕ) : Type 0 where
+  pub record WantsItem (table : List (Option ℕ)) (i : ℕ) : Type 0 where
     pub wants : Wants table
     pub accepted : Accepted s
     pub below : i < items s
 
   -- and those of all items
-  pub record WantsItems (table : List ℕ) : Type 0 where
+  pub record WantsItems (table : List (Option ℕ)) : Type 0 where
     pub wants : Wants table
     pub accepted : Accepted s
 

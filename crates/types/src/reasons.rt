@@ -1,14 +1,15 @@
 // How many reasons there are for a C++ name to be trivial: `required_trivial_reasons` of trivial.rs.
 ghost use Rattle.std.specs.Prelude.{◌≡◌};
+ghost use Rattle.rules.specs.Kinds.{row_number};
 ghost use Rattle.rules.specs.Format.{Accepted};
 ghost use Rattle.row_tables.specs.Tables.{one_of};
 ghost use Rattle.types.specs.Reasons.{
-  one_more,
   Tallied,
   Wants,
   WantsList,
   WantsItem,
   WantsItems,
+  holder,
   of_plain,
   of_list,
   of_return,
@@ -22,53 +23,46 @@ ghost use Rattle.types.specs.Reasons.{
 use names::known;
 use names::known::Names;
 use row_tables::wants;
+use rules::item::ItemKind;
 use rules::limit::ROWS;
-use rules::{item, row, set};
-use sheet::logic::or;
+use rules::row::RowKind;
+use rules::{row, set};
 use sheet::{functions, items, rows};
 
-// No count goes beyond.
-const MOST: u16 = 65535;
-
-// The count stops at its largest, which no sheet reaches, so that no caller owes a bound.
-fn one_more(x: u16) -> u16
-    ensures { result ≡ one_more x }
+// A reason for a name, if there is one. The count stops at its largest, which no sheet reaches, so that no caller owes a bound.
+fn count_name(names: &mut Names, name: Option<u8>)
+    ensures { Tallied names.old (one_of name) names.new }
 {
-    if x < MOST { x + 1 } else { x }
-}
-
-// A reason for name n, if it is one.
-fn count_name(names: &mut Names, n: u16)
-    ensures { Tallied names.old (one_of n) names.new }
-{
-    let count = one_more(known::reasons_for(names, n));
+    let Some(n) = name else {
+        return;
+    };
+    let n = n as u16;
+    let count = known::reasons_for(names, n).saturating_add(1);
     known::enter_if(names, set::REQUIRED_TRIVIAL, true, n, count);
 }
 
 // A reason for row r, if it is a plain name of an extern C++ type.
-fn insist(s: &[u8], names: &mut Names, wants: &[u16; ROWS], r: u16)
+fn insist(s: &[u8], names: &mut Names, wants: &[Option<u8>; ROWS], r: u16)
     requires { Wants s.now names.old wants.now }
     ensures { Tallied names.old (of_plain s.now names.old r) names.new }
 {
-    let n = wants::wanted(s, names, wants, r);
-    count_name(names, n);
+    let name = wants::wanted(s, names, wants, r);
+    count_name(names, name);
 }
 
 // The reasons of the rows of the list at a place.
-fn insist_list(s: &[u8], names: &mut Names, wants: &[u16; ROWS], at: u32)
+fn insist_list(s: &[u8], names: &mut Names, wants: &[Option<u8>; ROWS], at: u32)
     requires { WantsList s.now names.old wants.now at }
     ensures { Tallied names.old (of_list s.now names.old at) names.new }
 {
     let count = sheet::pair_at(s, at as usize);
-    let mut j = 0;
-    while j < count {
+    for j in 0..count {
         insist(s, names, wants, items::entry_within(s, at, j));
-        j += 1;
     }
 }
 
 // The reason of a return row, if there is one.
-fn insist_return(s: &[u8], names: &mut Names, wants: &[u16; ROWS], row: u16)
+fn insist_return(s: &[u8], names: &mut Names, wants: &[Option<u8>; ROWS], row: u16)
     requires { Wants s.now names.old wants.now }
     ensures { Tallied names.old (of_return s.now names.old row) names.new }
 {
@@ -79,16 +73,15 @@ fn insist_return(s: &[u8], names: &mut Names, wants: &[u16; ROWS], row: u16)
 }
 
 // The reasons of item i: fields, or arguments and return.
-fn insist_item(s: &[u8], names: &mut Names, wants: &[u16; ROWS], i: u16)
+fn insist_item(s: &[u8], names: &mut Names, wants: &[Option<u8>; ROWS], i: u16)
     requires { WantsItem s.now names.old wants.now i }
     ensures { Tallied names.old (of_item s.now names.old i) names.new }
 {
-    let k = items::item_kind(s, i);
-    if k == item::STRUCT {
+    if items::item_is(s, ItemKind::Struct, i) {
         insist_list(s, names, wants, items::rest(s, i));
         return;
     }
-    if !items::function_kind(k) {
+    if !items::is_function(s, i) {
         return;
     }
     let at = functions::return_place(s, i);
@@ -96,42 +89,44 @@ fn insist_item(s: &[u8], names: &mut Names, wants: &[u16; ROWS], i: u16)
     insist_return(s, names, wants, sheet::pair_at(s, at as usize));
 }
 
+// Whether rows of kind k give a reason for the name in them: Box, Vec and slice.
+fn is_holder(k: RowKind) -> bool
+    ensures { result ≡ holder (row_number k) }
+{
+    matches!(k, RowKind::RustBox | RowKind::RustVec | RowKind::SliceRef)
+}
+
 // The reason of a collected row: a Box, Vec or slice of a plain name.
-fn insist_row(s: &[u8], names: &mut Names, wants: &[u16; ROWS], r: u16)
+fn insist_row(s: &[u8], names: &mut Names, wants: &[Option<u8>; ROWS], r: u16)
     requires { Wants s.now names.old wants.now }
     ensures { Tallied names.old (of_row s.now names.old r) names.new }
 {
-    let k = rows::kind(s, r);
-    if or(
-        or(k == row::RUST_BOX, k == row::RUST_VEC),
-        k == row::SLICE_REF,
-    ) {
+    let Some(k) = rows::kind(s, r) else {
+        return;
+    };
+    if is_holder(k) {
         insist(s, names, wants, rows::inner(s, r));
     }
 }
 
 // The reasons of all items.
-fn insist_items(s: &[u8], names: &mut Names, wants: &[u16; ROWS])
+fn insist_items(s: &[u8], names: &mut Names, wants: &[Option<u8>; ROWS])
     requires { WantsItems s.now names.old wants.now }
     ensures { Tallied names.old (of_items s.now names.old) names.new }
 {
     let count = items::items(s);
-    let mut i = 0;
-    while i < count {
+    for i in 0..count {
         insist_item(s, names, wants, i);
-        i += 1;
     }
 }
 
 // The reasons of the n rows that the scratch holds.
-fn insist_rows(s: &[u8], names: &mut Names, wants: &[u16; ROWS], scratch: &[u8], n: usize)
+fn insist_rows(s: &[u8], names: &mut Names, wants: &[Option<u8>; ROWS], scratch: &[u8], n: usize)
     requires { Wants s.now names.old wants.now }
     ensures { Tallied names.old (of_rows s.now names.old scratch.now n) names.new }
 {
-    let mut k = 0;
-    while k < n {
+    for k in 0..n {
         insist_row(s, names, wants, scratch::row_at(scratch, k));
-        k += 1;
     }
 }
 

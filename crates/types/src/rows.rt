@@ -3,7 +3,6 @@ ghost use Rattle.std.specs.Prelude.{◌≡◌, [], ◌∷◌, suc};
 ghost use Rattle.rules.specs.View.{rows, or_nothing, entries};
 ghost use Rattle.rules.specs.Collect.{shown_by};
 ghost use Rattle.rules.specs.Types.{types_of};
-ghost use Rattle.laws.specs.Kinds.{leaf};
 ghost use Rattle.scratch.specs.Bytes.{Grown};
 ghost use Rattle.types.specs.Walk.{
   of_signature,
@@ -18,16 +17,11 @@ ghost use Rattle.types.specs.Walk.{
   Walks,
 };
 
-use rules::{item, row};
-use sheet::logic::or;
+use row_tables::leaf::is_leaf;
+use rules::item::ItemKind;
+use rules::row;
+use rules::row::RowKind;
 use sheet::{functions, items};
-
-// Whether rows of kind k refer to nothing: Ident, Str and Void.
-fn leaf(k: u16) -> bool
-    ensures { result ≡ leaf k }
-{
-    or(or(k == row::IDENT, k == row::STR), k == row::VOID)
-}
 
 // Collects a row after the n rows that the scratch holds, and then what it refers to. A row that was seen is not walked again.
 #[cycle(visit_signature_visit_type)]
@@ -39,11 +33,10 @@ fn visit_type(s: &[u8], scratch: &mut [u8], n: usize, row: u16) -> usize
         return n;
     }
     let m = scratch::add(scratch, n, row);
-    let k = sheet::rows::kind(s, row);
-    if leaf(k) {
+    if is_leaf(s, row) {
         return m;
     }
-    if k == row::FN {
+    if sheet::rows::is(s, RowKind::Fn, row) {
         return visit_signature(s, scratch, m, row);
     }
     let inner = sheet::rows::inner(s, row);
@@ -63,11 +56,9 @@ fn visit_signature(s: &[u8], scratch: &mut [u8], n: usize, row: u16) -> usize
     }
     let args = sheet::offset(s, row as u32) as u32 + 6;
     let count = sheet::pair_at(s, args as usize);
-    let mut j = 0;
-    while j < count {
+    for j in 0..count {
         let arg = items::entry(s, args, j);
         m = visit_type(s, scratch, m, arg);
-        j += 1;
     }
     m
 }
@@ -90,11 +81,9 @@ fn visit_list(s: &[u8], scratch: &mut [u8], n: usize, at: u32) -> usize
 {
     let mut m = n;
     let count = sheet::pair_at(s, at as usize);
-    let mut j = 0;
-    while j < count {
+    for j in 0..count {
         let row = items::entry_within(s, at, j);
         m = show(s, scratch, m, row);
-        j += 1;
     }
     m
 }
@@ -126,23 +115,16 @@ fn visit_item(s: &[u8], scratch: &mut [u8], n: usize, i: u16) -> usize
     requires { WalkableItem s.now scratch.old n i }
     ensures { Walks s.now scratch.old scratch.new n (rows s.now) (shown_by s.now i) result }
 {
-    let k = items::item_kind(s, i);
-    if k == item::STRUCT {
-        let fields = items::rest(s, i);
-        return visit_list(s, scratch, n, fields);
+    let Some(k) = items::item_kind(s, i) else {
+        return n;
+    };
+    match k {
+        ItemKind::Struct => visit_list(s, scratch, n, items::rest(s, i)),
+        ItemKind::Enum => visit_type(s, scratch, n, items::enum_repr(s, i)),
+        ItemKind::CxxFunction | ItemKind::RustFunction => visit_function(s, scratch, n, i),
+        ItemKind::Impl => visit_type(s, scratch, n, items::impl_row(s, i)),
+        ItemKind::Include | ItemKind::CxxType | ItemKind::RustType | ItemKind::TypeAlias => n,
     }
-    if items::enum_kind(k) {
-        let repr = items::enum_repr(s, i);
-        return visit_type(s, scratch, n, repr);
-    }
-    if items::function_kind(k) {
-        return visit_function(s, scratch, n, i);
-    }
-    if k == item::IMPL {
-        let row = items::impl_row(s, i);
-        return visit_type(s, scratch, n, row);
-    }
-    n
 }
 
 // Collects the rows of the whole sheet, item after item, into a scratch that holds none. The answer is how many they are.
@@ -152,10 +134,8 @@ pub fn visit_items(s: &[u8], scratch: &mut [u8]) -> usize
 {
     let count = items::items(s);
     let mut n = 0;
-    let mut i = 0;
-    while i < count {
+    for i in 0..count {
         n = visit_item(s, scratch, n, i);
-        i += 1;
     }
     n
 }

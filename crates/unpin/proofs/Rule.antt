@@ -12,8 +12,8 @@ use lib.ListN.{length, get_or}
 use borrow.Author.Tests.{eqb-true, eq-eqb, not-true}
 use Rattle.rules.specs.Numbers.{Ident, Ref, SliceRef, name_count}
 use Rattle.unpin.specs.declared.UnpinReason.{UnpinReason}
-use Rattle.unpin.specs.declared.UnpinReason.TheVariants.{None, Row, Item}
-use Rattle.unpin.specs.declared.Unpin.{Unpin}
+use Rattle.std.proofs.Common.{Option, Some, None}
+use Rattle.unpin.specs.declared.UnpinReason.TheVariants.{Row, Item}
 use Rattle.rules.specs.Format.{Accepted}
 use Rattle.rules.specs.Count.{place}
 use Rattle.rules.specs.View.{flag1, flag2, kind, is, rows, row_name, row_flags, inner, items, is_function, is_method, form, self_type}
@@ -135,8 +135,8 @@ module _ (s : List ℕ) (acc : Accepted s) where
     -- ## What a pass leaves, in words
 
     -- the last such one, by where it stands, or what there was
-    data Leaves (Is : ℕ → Type 0) (at : ℕ → ℕ) (val : ℕ → UnpinReason) (old : UnpinReason) : UnpinReason → Type 0 where
-      finds-last : {x : ℕ} → Asked s n → Is x → ((y : ℕ) → Is y → at y ≤ at x) → Leaves Is at val old (val x)
+    data Leaves (Is : ℕ → Type 0) (at : ℕ → ℕ) (val : ℕ → UnpinReason) (old : Option UnpinReason) : Option UnpinReason → Type 0 where
+      finds-last : {x : ℕ} → Asked s n → Is x → ((y : ℕ) → Is y → at y ≤ at x) → Leaves Is at val old (Some (val x))
       finds-none : (Asked s n → No Is) → Leaves Is at val old old
 
     -- of k places, each with a row or an item
@@ -145,7 +145,7 @@ module _ (s : List ℕ) (acc : Accepted s) where
           → ((x : ℕ) → Asked s n → Is x → (p x ≡ true) × (name x ≡ n))
           → ((x : ℕ) → Is x → (j : ℕ) × (j < k) × (el j ≡ x))
           → ((j : ℕ) → j < k → at (el j) ≡ j)
-          → {old u : UnpinReason} → Pass (λ j. p (el j)) (λ j. name (el j)) (λ j. val (el j)) k n old u → Leaves Is at val old u
+          → {old u : Option UnpinReason} → Pass (λ j. p (el j)) (λ j. name (el j)) (λ j. val (el j)) k n old u → Leaves Is at val old u
       leaves to from spot stands (kept f) = finds-none λ a x h.
           let q = spot x h in
           let w = from x a h in
@@ -159,7 +159,7 @@ module _ (s : List ℕ) (acc : Accepted s) where
           let z : at x ≡ q.0 = ap at (sym q.2) ∙ stands q.0 q.1 in
           omega (arith, z, stands j l, o)
 
-    together : {u v w : UnpinReason} → Leaves (MutSlice s n) (standing s) Row None u → Leaves (MutMethod s n) (λ i. i) Item u v
+    together : {u v w : Option UnpinReason} → Leaves (MutSlice s n) (standing s) Row None u → Leaves (MutMethod s n) (λ i. i) Item u v
         → Leaves (MutRef s n) (standing s) Row v w → Stands s n w
     together a b (finds-last d m f) = by_ref d m f
     together a (finds-last d m f) (finds-none g) = by_method d m f (g d)
@@ -183,20 +183,20 @@ module _ (s : List ℕ) (acc : Accepted s) where
     spot : (r : ℕ) → Reached s (items s) r → (k : ℕ) × (k < length t.all) × (row_at k ≡ r)
     spot r c = let i = (all-is s acc r).1 c in (place t.all r, place-lt t.all r i, place-get t.all r i)
 
-    slices : (old : UnpinReason) → Leaves (MutSlice s n) (standing s) Row old (last_for n old (find_rows s t (is_mut_slice s t)))
+    slices : (old : Option UnpinReason) → Leaves (MutSlice s n) (standing s) Row old (last_for n old (find_rows s t (is_mut_slice s t)))
     unfolding find_rows find_row
     slices old =
         leaves (MutSlice s n) (standing s) Row (length t.all) row_at (is_mut_slice s t) (λ r. row_name s (inner s r))
         (λ j l c e. slice_of (row_at j) (reached-at j l) c e) (λ r a h. (is_slice r a h, h.slice.bears)) (λ r h. spot r h.slice.collected) stands_at
         (pass-is _ _ _ old (length t.all) n)
 
-    methods : (old : UnpinReason) → Leaves (MutMethod s n) (λ i. i) Item old (last_for n old (find_items s t))
+    methods : (old : Option UnpinReason) → Leaves (MutMethod s n) (λ i. i) Item old (last_for n old (find_items s t))
     unfolding find_items find_item
     methods old =
         leaves (MutMethod s n) (λ i. i) Item (items s) (λ i. i) (is_mut_method s t) (self_type s) method-of (λ i a h. (is-method i a h, h.bears))
         (λ i h. (i, h.below, refl)) (λ j l. refl) (pass-is _ _ _ old (items s) n)
 
-    refs : (old : UnpinReason) → Leaves (MutRef s n) (standing s) Row old (last_for n old (find_rows s t (is_mut_ref s t)))
+    refs : (old : Option UnpinReason) → Leaves (MutRef s n) (standing s) Row old (last_for n old (find_rows s t (is_mut_ref s t)))
     unfolding find_rows find_row
     refs old =
         leaves (MutRef s n) (standing s) Row (length t.all) row_at (is_mut_ref s t) (λ r. row_name s (inner s r))
@@ -208,48 +208,49 @@ module _ (s : List ℕ) (acc : Accepted s) where
     unfolding finds
     three =
         last-append n None (find_rows s t (is_mut_slice s t) ++ find_items s t) (find_rows s t (is_mut_ref s t))
-        ∙ ap (λ (u : UnpinReason). last_for n u (find_rows s t (is_mut_ref s t))) (last-append n None (find_rows s t (is_mut_slice s t)) (find_items s t))
+        ∙ ap (λ (u : Option UnpinReason). last_for n u (find_rows s t (is_mut_ref s t)))
+        (last-append n None (find_rows s t (is_mut_slice s t)) (find_items s t))
 
   reason-stands : (n : ℕ) → n < name_count → Stands s n (reason_for (unpin_of s t) n)
   unfolding unpin_of
   reason-stands n l =
-      subst (Stands s n) (sym (ap (λ (u : Unpin). u.reason) (all-get (finds s t) n l) ∙ three n)) (together n (slices n None) (methods n _) (refs n _))
+      subst (Stands s n) (sym (all-get (finds s t) n l ∙ three n)) (together n (slices n None) (methods n _) (refs n _))
 
 -- ## What is shown, and what is not
 
 -- rows, items and no reason never meet
-row-item : {A : Type 0} {r i : ℕ} → Row r ≡ Item i → A
+row-item : {A : Type 0} {r i : ℕ} → Some (Row r) ≡ Some (Item i) → A
 row-item e = absurd (let z : ◌≡◌ {A = ℕ} 0 1 = cc in omega arith)
 
-none_row : {A : Type 0} {r : ℕ} → None ≡ Row r → A
+none_row : {A : Type 0} {r : ℕ} → None ≡ Some (Row r) → A
 none_row e = absurd (let z : ◌≡◌ {A = ℕ} 0 1 = cc in omega arith)
 
-none-item : {A : Type 0} {i : ℕ} → None ≡ Item i → A
+none-item : {A : Type 0} {i : ℕ} → None ≡ Some (Item i) → A
 none-item e = absurd (let z : ◌≡◌ {A = ℕ} 0 1 = cc in omega arith)
 
 module _ (s : List ℕ) (n : ℕ) where
-  row-shown : {u : UnpinReason} (r : ℕ) → Stands s n u → u ≡ Row r → Asked s n × (MutSlice s n r ⊎ MutRef s n r)
+  row-shown : {u : Option UnpinReason} (r : ℕ) → Stands s n u → u ≡ Some (Row r) → Asked s n × (MutSlice s n r ⊎ MutRef s n r)
   row-shown r (by_ref {r = q} a m l) e = let d : q ≡ r = cc in (a, inr (subst (MutRef s n) d m))
   row-shown r (by_method a m l f) e = row-item (sym e)
   row-shown r (by_slice {r = q} a m l f g) e = let d : q ≡ r = cc in (a, inl (subst (MutSlice s n) d m))
   row-shown r (without a f g h) e = none_row e
   row-shown r (not_asked f) e = none_row e
 
-  item-shown : {u : UnpinReason} (i : ℕ) → Stands s n u → u ≡ Item i → Asked s n × MutMethod s n i
+  item-shown : {u : Option UnpinReason} (i : ℕ) → Stands s n u → u ≡ Some (Item i) → Asked s n × MutMethod s n i
   item-shown i (by_ref a m l) e = row-item e
   item-shown i (by_method {i = j} a m l f) e = let d : j ≡ i = cc in (a, subst (MutMethod s n) d m)
   item-shown i (by_slice a m l f g) e = row-item e
   item-shown i (without a f g h) e = none-item e
   item-shown i (not_asked f) e = none-item e
 
-  none-there : {u : UnpinReason} → Asked s n → Stands s n u → u ≡ None → No (MutSlice s n) × No (MutMethod s n) × No (MutRef s n)
+  none-there : {u : Option UnpinReason} → Asked s n → Stands s n u → u ≡ None → No (MutSlice s n) × No (MutMethod s n) × No (MutRef s n)
   none-there w (by_ref a m l) e = none_row (sym e)
   none-there w (by_method a m l f) e = none-item (sym e)
   none-there w (by_slice a m l f g) e = none_row (sym e)
   none-there w (without a f g h) e = (f, g, h)
   none-there w (not_asked f) e = absurd (f w)
 
-  other_none : {u : UnpinReason} → (Asked s n → ⊥) → Stands s n u → u ≡ None
+  other_none : {u : Option UnpinReason} → (Asked s n → ⊥) → Stands s n u → u ≡ None
   other_none w (by_ref a m l) = absurd (w a)
   other_none w (by_method a m l f) = absurd (w a)
   other_none w (by_slice a m l f g) = absurd (w a)
@@ -276,7 +277,7 @@ module _ (s : List ℕ) (acc : Accepted s) where
   row_small : {n k r : ℕ} → Over s n k r → r + 1 < item_reasons
   row_small {r = r} h = let l : r < rows s = reached-below r h.collected in omega (arith, (sheet-of s acc).few-rows)
 
-  stands-back : {n : ℕ} {u : UnpinReason} → Stands s n u → reason_of (reason_number u) ≡ u
+  stands-back : {n : ℕ} {u : Option UnpinReason} → Stands s n u → reason_of (reason_number u) ≡ u
   stands-back (by_ref {r = r} a m l) = row_back r (row_small m.reference)
   stands-back (by_method {i = i} a m l f) = item_back i (let h : i < items s = m.below in omega (arith, (sheet-of s acc).few-items))
   stands-back (by_slice {r = r} a m l f g) = row_back r (row_small m.slice)

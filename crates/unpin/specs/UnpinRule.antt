@@ -1,11 +1,10 @@
 -- What is promised of the reasons to be Unpin, in the words of the sheet: a reason shown exists in it, and a name that is asked for and has none has no such
 -- slice, receiver or reference. Nothing here is computed by a pass or a table.
 -- Assumes nothing: these are definitions.
-use Rattle.std.specs.Prelude.{ℕ, ◌≤◌, ◌<◌, ◌≡◌, ◌⊎◌, true, false, List}
+use Rattle.std.specs.Prelude.{ℕ, ◌≤◌, ◌<◌, ◌≡◌, ◌⊎◌, true, false, List, Option, Some, None}
 use Rattle.rules.specs.Numbers.{Ident, Ref, SliceRef, Struct, Enum, CxxType, TypeAlias, name_count}
 use Rattle.unpin.specs.declared.UnpinReason.{UnpinReason}
-use Rattle.unpin.specs.declared.UnpinReason.TheVariants.{None, Row, Item}
-use Rattle.unpin.specs.declared.Unpin.{Unpin}
+use Rattle.unpin.specs.declared.UnpinReason.TheVariants.{Row, Item}
 use Rattle.rules.specs.Format.{Accepted}
 use Rattle.rules.specs.Types.{types_of}
 use Rattle.rules.specs.Count.{place}
@@ -61,19 +60,19 @@ module _ (s : List ℕ) (n : ℕ) where
 
   -- ## The reason that stood last, or none
 
-  pub data Stands : UnpinReason → Type 0 where
-    by_ref : {r : ℕ} → Asked → MutRef r → ((q : ℕ) → MutRef q → standing s q ≤ standing s r) → Stands (Row r)
-    by_method : {i : ℕ} → Asked → MutMethod i → ((j : ℕ) → MutMethod j → j ≤ i) → No MutRef → Stands (Item i)
-    by_slice : {r : ℕ} → Asked → MutSlice r → ((q : ℕ) → MutSlice q → standing s q ≤ standing s r) → No MutMethod → No MutRef → Stands (Row r)
+  pub data Stands : Option UnpinReason → Type 0 where
+    by_ref : {r : ℕ} → Asked → MutRef r → ((q : ℕ) → MutRef q → standing s q ≤ standing s r) → Stands (Some (Row r))
+    by_method : {i : ℕ} → Asked → MutMethod i → ((j : ℕ) → MutMethod j → j ≤ i) → No MutRef → Stands (Some (Item i))
+    by_slice : {r : ℕ} → Asked → MutSlice r → ((q : ℕ) → MutSlice q → standing s q ≤ standing s r) → No MutMethod → No MutRef → Stands (Some (Row r))
     without : Asked → No MutSlice → No MutMethod → No MutRef → Stands None
     not_asked : (Asked → ⊥) → Stands None
 
 -- of the reasons of all names
-pub record UnpinRule (s : List ℕ) (reasons : List Unpin) : Type 0 where
+pub record UnpinRule (s : List ℕ) (reasons : List (Option UnpinReason)) : Type 0 where
   pub stands : (n : ℕ) → n < name_count → Stands s n (reason_for reasons n)
   -- a reason shown exists in the sheet
-  pub shown_row : (n r : ℕ) → n < name_count → reason_for reasons n ≡ Row r → Asked s n × (MutSlice s n r ⊎ MutRef s n r)
-  pub shown_item : (n i : ℕ) → n < name_count → reason_for reasons n ≡ Item i → Asked s n × MutMethod s n i
+  pub shown_row : (n r : ℕ) → n < name_count → reason_for reasons n ≡ Some (Row r) → Asked s n × (MutSlice s n r ⊎ MutRef s n r)
+  pub shown_item : (n i : ℕ) → n < name_count → reason_for reasons n ≡ Some (Item i) → Asked s n × MutMethod s n i
   -- such a name without one has no such slice, receiver or reference
   pub silent : (n : ℕ) → n < name_count → Asked s n → reason_for reasons n ≡ None → No (MutSlice s n) × No (MutMethod s n) × No (MutRef s n)
   -- other names have none

@@ -1,18 +1,12 @@
 -- Records stored at the places of a list, one after another, and the records that bytes hold.
 -- Assumes nothing.
 use mathlib.Core.Path.{◌≡◌, refl, sym, ◌∙◌, ap}
-use Prim.Native.Nat.{ℕ, zero, suc, ◌<◌, ◌≤◌, ◌*◌, ◌+◌, ◌-◌, ◌/◌}
+use Prim.Native.Nat.{ℕ, zero, suc, ◌<◌, ◌≤◌, ◌*◌, ◌+◌, ◌-◌, ◌/◌, min}
 use native.Mathlib.Omega.{arith}
 use native.Mathlib.Decide.{dec_le}
-use mathlib.Core.Bool.{Bool, true, false}
 use mathlib.Core.List.{List, [], ◌∷◌, ◌++◌, flat_map}
-use mathlib.Core.WellFounded.InvImage
-use mathlib.Core.WellFounded.{WellFounded}
 use lib.ListN.{length, take, drop, set, length-append}
 use lib.Seq.{sets, sets-eq, length-sets, take_all, take-append-le}
-use lib.WfN.{lt-wf_rel}
-use lib.Dec.{ltb}
-use borrow.Author.Tests.{ltb-false}
 use Rattle.rules.specs.declared.Diagnostic.{Diagnostic}
 use Rattle.rules.specs.Diagnostics.{Small}
 use Rattle.laws.proofs.Base.Forms.{All}
@@ -21,7 +15,7 @@ use Rattle.errors.specs.Records.{record_bytes, record_at, record_in, records_in}
 use Rattle.errors.specs.Sink.{kept}
 use Rattle.errors.proofs.Inverse.{record-in}
 use Rattle.errors.proofs.Window.{records-long}
-use Rattle.windows.specs.Windows.{pick, least2, least3, stored}
+use Rattle.windows.specs.Windows.{least3, stored}
 use Rattle.windows.proofs.Records.{records-back}
 
 -- ## One after another
@@ -62,22 +56,21 @@ module _ (ys : List Diagnostic) (at : ℕ) (bs : List ℕ) where
       go (yes l) ih = ih l ∙ sym (take-append-le k (records_in n bs) (record_at bs (8 * n) ∷ []) (omega (arith, records_in-long n bs)))
       go (no l) ih = let z : k ≡ suc n = omega arith in rw z (sym (take_all (suc n) (records_in (suc n) bs) (omega (arith, records_in-long (suc n) bs))))
 
-  cut_by : (n : ℕ) (t : Bool) → ltb n (length ys - at) ≡ t → sets ys at (records_in (pick t n (length ys - at)) bs) ≡ sets ys at (records_in n bs)
-  cut_by n true e = refl
-  cut_by n false e =
-      let h : length ys - at ≤ n = ltb-false n (length ys - at) e in
-      ap (λ (l : List Diagnostic). sets ys at l) (records_in-take (length ys - at) n h) ∙ sets-cut ys at (length ys - at) (records_in n bs) (omega arith)
+  cut : (m : ℕ) → sets ys at (records_in (min m (length ys - at)) bs) ≡ sets ys at (records_in m bs)
+  cut m =
+      let fit : min m (length ys - at) ≤ m = omega arith in
+      ap (λ (l : List Diagnostic). sets ys at l) (records_in-take (min m (length ys - at)) m fit) ∙ go (dec_le m (length ys - at))
+    where
+      go : Dec (m ≤ length ys - at) → sets ys at (take (min m (length ys - at)) (records_in m bs)) ≡ sets ys at (records_in m bs)
+      go (yes h) = ap (λ (l : List Diagnostic). sets ys at l) (take_all (min m (length ys - at)) (records_in m bs) (omega (arith, records_in-long m bs)))
+      go (no h) = sets-cut ys at (min m (length ys - at)) (records_in m bs) (omega arith)
 
   pub over-end : (n i : ℕ) → i ≡ at + least3 n (length bs / 8) (length ys - at) → over i ≡ sets ys at (stored n bs)
   unfolding stored
   over-end n i e =
       let z : i - at ≡ least3 n (length bs / 8) (length ys - at) = omega arith in
       ap (λ (k : ℕ). sets ys at (records_in k bs)) z
-      ∙ cut_by (least2 n (length bs / 8)) (ltb (least2 n (length bs / 8)) (length ys - at)) refl
-
--- the numbers up to m, the larger the lower
-pub up_to : (m : ℕ) → WellFounded (λ (i j : ℕ). m - i < m - j)
-up_to m = InvImage.wf (λ (i : ℕ). m - i) lt-wf_rel.wf
+      ∙ cut (min n (length bs / 8))
 
 -- ## Bytes in which all records ds have room: they are read back
 
@@ -98,13 +91,10 @@ module _ (ds : List Diagnostic) (small : All Small ds) (zs : List ℕ) (roomy : 
   unfolding kept
   after-long = length-sets zs (8 * 0) (flat_map record_bytes (take (length zs / 8 - 0) ds))
 
-  least_by : (t : Bool) → ltb (length ds) (length after / 8) ≡ t → pick t (length ds) (length after / 8) ≡ length ds
-  least_by true e = refl
-  least_by false e = let h : length after / 8 ≤ length ds = ltb-false (length ds) (length after / 8) e in omega (arith, after-long)
-
   pub kept-stored : stored (length ds) after ≡ ds
   unfolding stored
   kept-stored =
-      ap (λ (m : ℕ). records_in m after) (least_by (ltb (length ds) (length after / 8)) refl)
+      let all : min (length ds) (length after / 8) ≡ length ds = omega (arith, after-long) in
+      ap (λ (m : ℕ). records_in m after) all
       ∙ ap (λ (b : List ℕ). records_in (length ds) b) after_is
       ∙ records-back small (drop (0 + length (flat_map record_bytes ds)) zs)

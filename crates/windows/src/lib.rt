@@ -5,7 +5,7 @@
 ghost use Rattle.std.specs.Prelude.{◌≡◌, ◌+◌, ◌-◌, ◌/◌};
 ghost use Rattle.rules.specs.Numbers.{record_size};
 ghost use Rattle.errors.specs.Records.{record_in};
-ghost use Rattle.windows.specs.Windows.{least2, least3};
+ghost use Rattle.windows.specs.Windows.{least3};
 
 use rules::Diagnostic;
 use rules::size::RECORD;
@@ -14,37 +14,19 @@ use rules::size::RECORD;
 pub fn record_from(bytes: &[u8], at: usize, i: usize) -> Diagnostic
     ensures { result ≡ record_in bytes.now (i - at) }
 {
-    errors::codes::record(bytes, minus(i, at))
-}
-
-fn least(a: usize, b: usize) -> usize
-    ensures { result ≡ least2 a b }
-{
-    if a < b { a } else { b }
-}
-
-fn minus(a: usize, b: usize) -> usize
-    ensures { result ≡ a - b }
-{
-    if a < b { 0 } else { a - b }
-}
-
-fn count(n: usize, a: usize, b: usize) -> usize
-    ensures { result ≡ least3 n a b }
-{
-    least(least(n, a), b)
+    errors::codes::record(bytes, i.saturating_sub(at))
 }
 
 // The place after the last one stored: n records from place `at` on, as far as the bytes that they stand in and the list (`len`) reach.
 pub fn end(at: usize, n: usize, len: usize, bytes: usize) -> usize
     ensures { result ≡ at + least3 n (bytes / record_size) (len - at) }
 {
-    at + count(n, bytes / RECORD, minus(len, at))
+    at + n.min(bytes / RECORD).min(len.saturating_sub(at))
 }
 
 // How many of `total` records there are from number `from` on.
 pub fn left(total: usize, from: usize) -> usize
     ensures { result ≡ total - from }
 {
-    minus(total, from)
+    total.saturating_sub(from)
 }

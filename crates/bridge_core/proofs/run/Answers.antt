@@ -4,10 +4,10 @@ use Rattle.bridge_core.proofs.RunCases.{ran-refused, ran-accepted, runnable}
 use Rattle.bridge_core.proofs.run.Goals as goal
 
 pub run-requires : goal.run-requires
-run-requires c = runnable _ _ _ (sym c.read_with-step.ensures ∙ c.in-Next.is)
+run-requires c = runnable _ _ _ (sym c.read_with.ensures ∙ c.in-Ok.is)
 
-pub returns-in-Refused : goal.returns-in-Refused
-returns-in-Refused c = ran-refused _ _ _ _ _ _ _ (sym c.read_with-step.ensures ∙ c.in-Refused.is) c.refused.ensures
+pub returns-in-Err : goal.returns-in-Err
+returns-in-Err c = ran-refused _ _ _ _ _ _ (sym c.read_with.ensures ∙ c.in-Err.is) c.refused.ensures
 
-pub returns-in-Next : goal.returns-in-Next
-returns-in-Next c = ran-accepted _ _ _ _ _ _ _ _ (sym c.read_with-step.ensures ∙ c.in-Next.is) c.run.ensures.answer c.run.ensures.scratch c.run.ensures.window
+pub returns-in-Ok : goal.returns-in-Ok
+returns-in-Ok c = ran-accepted _ _ _ _ _ _ _ _ (sym c.read_with.ensures ∙ c.in-Ok.is) c.run.ensures.answer c.run.ensures.scratch c.run.ensures.window

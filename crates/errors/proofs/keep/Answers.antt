@@ -7,7 +7,7 @@ pub returns-then-n-from : goal.returns-then-n-from
 returns-then-n-from c = search keep_out
 
 pub returns-then-i-out : goal.returns-then-i-out
-returns-then-i-out c = c.put8.ensures.stored ∙ keep-in _ _ _ _ c.if-n-from.false c.if-i-out.true
+returns-then-i-out c = c.put.ensures.stored ∙ keep-in _ _ _ _ c.if-n-from.false c.if-i-out.true
 
 pub returns-else-i-out : goal.returns-else-i-out
 returns-else-i-out c = keep-past _ _ _ _ c.if-n-from.false c.if-i-out.false

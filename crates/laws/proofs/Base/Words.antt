@@ -1,34 +1,71 @@
--- A word whose bits are tests of a list's entries: what the zeros at its low end say, and what it is behind them. A loop over the entries that pass reads them
--- off the word, lowest bit first.
+-- A word whose bits are tests of a list's entries: what its lowest bit says, and what it is without that bit. A loop over the entries that pass reads them off
+-- the word, lowest bit first.
 -- Assumes nothing.
 use Prim.Native.Nat.{ℕ, zero, suc, ◌+◌, ◌-◌, ◌*◌, ◌/◌, ◌%◌, ◌^◌, ◌≤◌, ◌<◌}
 use mathlib.Core.Path.{◌≡◌, refl, sym, ap, ◌∙◌}
 use mathlib.Core.Bool.{Bool, true, false}
-use native.Mathlib.Nat.{pow-suc}
+use native.Mathlib.Nat.{pow-suc, mul_assoc, mul_comm, mul-suc}
 use native.Mathlib.Omega.{arith}
 use lib.Count.{under, count_trailing_zeros}
-use lib.Pow.{shr-shr}
+use lib.Pow.{pow-add, pow_pos}
 use Rattle.rules.specs.Diagnostics.{bit}
 use Rattle.laws.specs.Word.{word_of}
 use Rattle.laws.proofs.Base.Tests.{both}
 
--- of n entries, with those from k on in the word w: z of these fail, the one behind them passes, and behind that one the word goes on
-pub record NextOf (p : ℕ → Bool) (k n w z : ℕ) : Type 0 where
-  pub within : k + z < n
-  pub before : (j : ℕ) → j < z → p (k + j) ≡ false
-  pub passes : p (k + z) ≡ true
-  pub behind : w / 2 ^ z / 2 ≡ word_of p (k + z + 1) (n - (k + z + 1))
+-- of n entries, with those from k on in a word: entry j is the next that passes, and without its bit the word is `rest`, which has those behind it
+pub record NextOf (p : ℕ → Bool) (k n rest j : ℕ) : Type 0 where
+  pub from : k ≤ j
+  pub within : j < n
+  pub before : (i : ℕ) → k ≤ i → i < j → p i ≡ false
+  pub passes : p j ≡ true
+  pub behind : rest ≡ 2 ^ (j + 1) * word_of p (j + 1) (n - (j + 1))
 
--- the same, of m entries from k on
+-- of m entries from k on, with the first one's bit the lowest of the word w: z of these fail, the one behind them passes, and then come the others
 record Low (p : ℕ → Bool) (k m w z : ℕ) : Type 0 where
   within : z < m
-  before : (j : ℕ) → j < z → p (k + j) ≡ false
+  before : (i : ℕ) → i < z → p (k + i) ≡ false
   passes : p (k + z) ≡ true
-  behind : w / 2 ^ z / 2 ≡ word_of p (k + z + 1) (m - (z + 1))
+  behind : w ≡ 2 ^ z * (1 + 2 * word_of p (k + z + 1) (m - (z + 1)))
 
 pub bit_le : (b : Bool) → bit b ≤ 1
 bit_le true = omega arith
 bit_le false = omega arith
+
+-- a word with a 0 below it
+doubled : (k x v : ℕ) → v ≡ 2 ^ k * x → 2 * v ≡ 2 ^ suc k * x
+doubled k x v e = ap (λ (y : ℕ). 2 * y) e ∙ sym (mul_assoc 2 (2 ^ k) x) ∙ ap (λ (y : ℕ). y * x) (mul_comm 2 (2 ^ k) ∙ sym (pow-suc 2 k))
+
+-- k zeros below a word, which is 0 as before, or not
+is-none : (k v : ℕ) → 2 ^ k * v ≡ 0 → v ≡ 0
+is-none k zero h = refl
+is-none k (suc v) h = absurd (omega (arith, h, pow_pos k, mul-suc (2 ^ k) v))
+
+not-none : (k v : ℕ) → 0 < 2 ^ k * v → 0 < v
+not-none k zero h = absurd (omega (arith, h))
+not-none k (suc v) h = omega arith
+
+-- and the zeros below its lowest bit are k more
+zeros-shifted : (k d v : ℕ) → count_trailing_zeros (k + d) (2 ^ k * v) ≡ k + count_trailing_zeros d v
+unfolding count_trailing_zeros
+zeros-shifted zero d v =
+    let w : 2 ^ 0 * v ≡ v = omega arith in
+    let n : 0 + d ≡ d = omega arith in
+    let m : 0 + count_trailing_zeros d v ≡ count_trailing_zeros d v = omega arith in
+    rw (w, n, m) refl
+zeros-shifted (suc k) d v =
+    let w : 2 ^ suc k * v ≡ 2 * (2 ^ k * v) = sym (doubled k v _ refl) in
+    let n : suc k + d ≡ suc (k + d) = omega arith in
+    let m : suc k + count_trailing_zeros d v ≡ suc (k + count_trailing_zeros d v) = omega arith in
+    let even : 2 * (2 ^ k * v) % 2 ≡ 0 = omega arith in
+    let half : 2 * (2 ^ k * v) / 2 ≡ 2 ^ k * v = omega arith in
+    rw (w, n, m, even, half) (ap suc (zeros-shifted k d v))
+
+-- the lowest bit taken away
+without : (k z v x rest : ℕ) → v ≡ 2 ^ z * (1 + 2 * x) → rest + 2 ^ (k + z) ≡ 2 ^ k * v → rest ≡ 2 ^ (k + z + 1) * x
+without k z v x rest e r =
+    let whole = ap (λ (y : ℕ). 2 ^ k * y) e ∙ sym (mul_assoc (2 ^ k) (2 ^ z) (1 + 2 * x)) ∙ ap (λ (y : ℕ). y * (1 + 2 * x)) (sym (pow-add 2 k z)) in
+    let next : 2 ^ (k + z + 1) ≡ 2 ^ (k + z) * 2 = let o : k + z + 1 ≡ suc (k + z) = omega arith in rw o (pow-suc 2 (k + z)) in
+    rw next (omega (arith, r, whole))
 
 module _ (p : ℕ → Bool) where
   pub word_lt : (k m : ℕ) → word_of p k m < 2 ^ m
@@ -46,7 +83,7 @@ module _ (p : ℕ → Bool) where
       rw (here, more) (omega arith)
 
   -- the word is 0: no entry passes
-  pub word_none : (k m : ℕ) → word_of p k m ≡ 0 → (j : ℕ) → j < m → p (k + j) ≡ false
+  word_none : (k m : ℕ) → word_of p k m ≡ 0 → (j : ℕ) → j < m → p (k + j) ≡ false
   unfolding word_of
   word_none k zero h j l = absurd (omega arith)
   word_none k (suc m) h zero l =
@@ -55,6 +92,10 @@ module _ (p : ℕ → Bool) where
   word_none k (suc m) h (suc j) l =
       let z : suc k + j ≡ k + suc j = omega arith in
       rw z at (word_none (suc k) m (omega (arith, h)) j (omega arith))
+
+  -- the same of a word that has the bits in their places
+  pub none_left : (k m : ℕ) → 2 ^ k * word_of p k m ≡ 0 → (j : ℕ) → j < m → p (k + j) ≡ false
+  none_left k m h = word_none k m (is-none k (word_of p k m) h)
 
   pub word_same : (q : ℕ → Bool) (k m : ℕ) → ((j : ℕ) → k ≤ j → j < k + m → p j ≡ q j) → word_of p k m ≡ word_of q k m
   unfolding word_of
@@ -66,34 +107,28 @@ module _ (p : ℕ → Bool) where
       → Low p k (suc m) (bit b + 2 * w) (under ((bit b + 2 * w) % 2) t)
   low_step k m w t true e q n h =
       let odd : (1 + 2 * w) % 2 ≡ 1 = omega arith in
-      let half : (1 + 2 * w) / 2 ^ 0 / 2 ≡ w = omega arith in
       let here : k + 0 ≡ k = omega arith in
       let next : k + 0 + 1 ≡ suc k = omega arith in
       let less : suc m - (0 + 1) ≡ m = omega arith in
-      rw odd (record {
-        within = omega arith;
-        before = λ j l. absurd (omega arith);
-        passes = rw here e;
-        behind = rw (next, less) (half ∙ q);
-      })
+      rw odd (record { within = omega arith; before = λ i l. absurd (omega arith); passes = rw here e; behind = rw (next, less) (omega (arith, q)) })
   low_step k m w t false e q n h =
       let even : (0 + 2 * w) % 2 ≡ 0 = omega arith in
       let a = n (omega (arith, h)) in
       let here : k + suc t ≡ suc k + t = omega arith in
-      let half : (0 + 2 * w) / 2 ^ 1 ≡ w = omega arith in
-      let one : 1 + t ≡ suc t = omega arith in
       let less : suc m - (suc t + 1) ≡ m - (t + 1) = omega arith in
-      let far : (0 + 2 * w) / 2 ^ suc t ≡ w / 2 ^ t = rw one at (sym (shr-shr (0 + 2 * w) 1 t) ∙ ap (λ (x : ℕ). x / 2 ^ t) half) in
       rw even (record {
         within = omega (arith, a.within);
         before = below a.before;
         passes = rw here a.passes;
-        behind = rw (here, far, less) a.behind;
+        behind = rw (here, less) (twice (1 + 2 * word_of p (suc k + t + 1) (m - (t + 1))) a.behind);
       })
     where
-      below : ((j : ℕ) → j < t → p (suc k + j) ≡ false) → (j : ℕ) → j < suc t → p (k + j) ≡ false
+      below : ((i : ℕ) → i < t → p (suc k + i) ≡ false) → (i : ℕ) → i < suc t → p (k + i) ≡ false
       below f zero l = let z : k + 0 ≡ k = omega arith in rw z e
-      below f (suc j) l = let z : k + suc j ≡ suc k + j = omega arith in rw z (f j (omega arith))
+      below f (suc i) l = let z : k + suc i ≡ suc k + i = omega arith in rw z (f i (omega arith))
+
+      twice : (x : ℕ) → w ≡ 2 ^ t * x → 0 + 2 * w ≡ 2 ^ suc t * x
+      twice x f = let z : 0 + 2 * w ≡ 2 * w = omega arith in rw z (doubled t x w f)
 
   low_of : (d k m : ℕ) → m ≤ d → 0 < word_of p k m → Low p k m (word_of p k m) (count_trailing_zeros d (word_of p k m))
   unfolding word_of count_trailing_zeros
@@ -103,14 +138,22 @@ module _ (p : ℕ → Bool) where
       let half : (bit (p k) + 2 * word_of p (suc k) m) / 2 ≡ word_of p (suc k) m = omega (arith, bit_le (p k)) in
       rw half (low_step k m (word_of p (suc k) m) _ (p k) refl refl (low_of d (suc k) m (omega arith)) h)
 
-  -- the zeros at the low end of a word that is not 0
-  pub next_of : (k n w z : ℕ) → n ≤ 64 → w ≡ word_of p k (n - k) → (w ≡ 0 → ⊥) → z ≡ count_trailing_zeros 64 w → NextOf p k n w z
-  next_of k n w z few e some q =
-      let low = low_of 64 k (n - k) (omega arith) (rw e at (positive w some)) in
-      let a : Low p k (n - k) w z = rw (q, e) low in
-      let rest : n - k - (z + 1) ≡ n - (k + z + 1) = omega arith in
-      record { within = omega (arith, a.within); before = a.before; passes = a.passes; behind = rw rest at a.behind }
-    where
-      positive : (x : ℕ) → (x ≡ 0 → ⊥) → 0 < x
-      positive zero h = absurd (h refl)
-      positive (suc x) h = omega arith
+  -- the lowest bit of a word that is not 0, and the word without it
+  pub next_of : (k n w rest j : ℕ) → n ≤ 64 → k ≤ n → w ≡ 2 ^ k * word_of p k (n - k) → 0 < w → j ≡ count_trailing_zeros 64 w → rest + 2 ^ j ≡ w
+      → NextOf p k n rest j
+  next_of k n w rest j few upto e some q r =
+      let d = 64 - k in
+      let v = word_of p k (n - k) in
+      let all : k + d ≡ 64 = omega arith in
+      let z = count_trailing_zeros d v in
+      let at : j ≡ k + z = rw (e, ← all) at q ∙ zeros-shifted k d v in
+      let a = low_of d k (n - k) (omega arith) (not-none k v (rw e at some)) in
+      let next : k + z + 1 ≡ j + 1 = omega arith in
+      let less : n - k - (z + 1) ≡ n - (j + 1) = omega arith in
+      record {
+        from = omega arith;
+        within = omega (arith, a.within);
+        before = λ i f l. (let b = a.before (i - k) (omega arith) in let o : k + (i - k) ≡ i = omega arith in rw o at b);
+        passes = rw at a.passes;
+        behind = rw (next, less) at (without k z v (word_of p (k + z + 1) (n - k - (z + 1))) rest a.behind (rw (at, e) at r));
+      }

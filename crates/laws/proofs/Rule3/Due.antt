@@ -5,10 +5,9 @@ use Prim.Native.Nat.{ℕ}
 use mathlib.Core.Path.{◌≡◌, ap, ◌∙◌}
 use mathlib.Core.List.{List}
 use lib.ListN.{length}
-use Rattle.rules.specs.declared.Step.{Step}
-use Rattle.rules.specs.declared.Step.TheVariants.{Next}
+use Rattle.std.specs.Prelude.{Ok}
 use Rattle.rules.specs.declared.Diagnostic.{Diagnostic}
-use Rattle.rules.specs.Format.{Accepted}
+use Rattle.rules.specs.Format.{Step, Accepted}
 use Rattle.rules.specs.View.{items}
 use Rattle.rules.specs.Types.{types_of}
 use Rattle.rules.specs.Order.{graph_of, walk_of}
@@ -47,7 +46,7 @@ module _ (s : List ℕ) (acc : Accepted s) where
   unfolding answered accepted
   tiers3 = plain-tiers
 
-  pub answer-is : (scratch : List ℕ) (list : List Diagnostic) (e : ℕ) → read_with (length scratch) s ≡ Next e → (call s scratch list).answer ≡ answered
+  pub answer-is : (scratch : List ℕ) (list : List Diagnostic) (e : ℕ) → read_with (length scratch) s ≡ Ok e → (call s scratch list).answer ≡ answered
   unfolding outcome answered
   answer-is scratch list e h = ap (λ (o : Outcome). o.answer) (call-is s scratch list) ∙ ap (λ (v : Step). (outcome s scratch list v).answer) h
 

@@ -6,15 +6,14 @@ use mathlib.Core.Path.{◌≡◌, refl, sym, ap, ◌∙◌}
 use mathlib.Core.List.{List}
 use native.Mathlib.Omega.{arith}
 use lib.ListN.{length}
-use Rattle.rules.specs.declared.Step.{Step}
-use Rattle.rules.specs.declared.Step.TheVariants.{Next, Refused}
-use Rattle.rules.specs.declared.Verdict.{Verdict}
-use Rattle.rules.specs.declared.Verdict.TheVariants as verdict
+use Rattle.std.specs.Prelude.{⊤, Result, Ok, Err}
+use Rattle.rules.specs.Format.{Step}
+use Rattle.rules.specs.declared.Refusal.{Refusal}
 use Rattle.rules.specs.declared.Diagnostic.{Diagnostic}
 use Rattle.rules.specs.Types.{types_of}
 use Rattle.rules.specs.Order.{walk_of}
 use Rattle.rules.specs.Report.{report_of}
-use Rattle.rules.specs.Answer.{Outcome, number_of, position_of, number_for, position_for, refused, accepted, read_with, filled, cleared, call}
+use Rattle.rules.specs.Answer.{Outcome, fault_number, number_of, position_of, refused, accepted, read_with, filled, cleared, call}
 
 module _ (s scratch : List ℕ) (list : List Diagnostic) where
   -- ## By what the reader says
@@ -25,8 +24,8 @@ module _ (s scratch : List ℕ) (list : List Diagnostic) where
       let walk = walk_of s t in
       let report = report_of s t walk in
       elim v as (λ _. Outcome) [
-        | Refused number position ↦ record { answer = refused number position; list = list; scratch = scratch }
-        | Next _ ↦ record { answer = accepted s t walk report; list = filled list report; scratch = cleared scratch }
+        | Err r ↦ record { answer = refused r; list = list; scratch = scratch }
+        | Ok _ ↦ record { answer = accepted s t walk report; list = filled list report; scratch = cleared scratch }
       ]
 
   pub call-is : call s scratch list ≡ outcome (read_with (length scratch) s)
@@ -37,39 +36,39 @@ module _ (s scratch : List ℕ) (list : List Diagnostic) where
   abbrev said : Step
   said = read_with (length scratch) s
 
-  abbrev judged : Verdict
+  abbrev judged : Result ⊤ Refusal
   judged = (call s scratch list).answer.verdict
 
   -- ## The verdict's number and position
 
-  number_by : (v : Step) → number_of (outcome v).answer.verdict ≡ number_for v
+  number_by : (v : Step) → number_of (outcome v).answer.verdict ≡ number_of v
   unfolding outcome refused accepted
-  number_by (Refused number position) = refl
-  number_by (Next e) = refl
+  number_by (Err r) = refl
+  number_by (Ok e) = refl
 
-  position-by : (v : Step) → position_of (outcome v).answer.verdict ≡ position_for v
+  position-by : (v : Step) → position_of (outcome v).answer.verdict ≡ position_of v
   unfolding outcome refused accepted
-  position-by (Refused number position) = refl
-  position-by (Next e) = refl
+  position-by (Err r) = refl
+  position-by (Ok e) = refl
 
-  pub number_is : number_of judged ≡ number_for said
+  pub number_is : number_of judged ≡ number_of said
   number_is = ap (λ (o : Outcome). number_of o.answer.verdict) call-is ∙ number_by said
 
-  pub position-is : position_of judged ≡ position_for said
+  pub position-is : position_of judged ≡ position_of said
   position-is = ap (λ (o : Outcome). position_of o.answer.verdict) call-is ∙ position-by said
 
-  pub refusal_is : (number position : ℕ) → said ≡ Refused number position → (number_of judged ≡ number) × (position_of judged ≡ position)
-  refusal_is n p h = (number_is ∙ ap number_for h, position-is ∙ ap position_for h)
+  pub refusal_is : (r : Refusal) → said ≡ Err r → (number_of judged ≡ fault_number r.fault) × (position_of judged ≡ r.position)
+  refusal_is r h = (number_is ∙ ap number_of h, position-is ∙ ap position_of h)
 
-  pub acceptance-is : (e : ℕ) → said ≡ Next e → (number_of judged ≡ 0) × (position_of judged ≡ 0)
-  acceptance-is e h = (number_is ∙ ap number_for h, position-is ∙ ap position_for h)
+  pub acceptance-is : (e : ℕ) → said ≡ Ok e → (number_of judged ≡ 0) × (position_of judged ≡ 0)
+  acceptance-is e h = (number_is ∙ ap number_of h, position-is ∙ ap position_of h)
 
   -- ## An accepted answer
 
-  pub passed : judged ≡ verdict.Accepted → (e : ℕ) × (said ≡ Next e)
+  pub passed : judged ≡ Ok tt → (e : ℕ) × (said ≡ Ok e)
   unfolding outcome refused
   passed h = go said refl (ap (λ (o : Outcome). o.answer.verdict) (sym call-is) ∙ h)
     where
-      go : (v : Step) → said ≡ v → (outcome v).answer.verdict ≡ verdict.Accepted → (e : ℕ) × (said ≡ Next e)
-      go (Refused number position) q k = absurd (let z : ◌≡◌ {A = ℕ} 0 1 = cc in omega arith)
-      go (Next e) q k = (e, q)
+      go : (v : Step) → said ≡ v → (outcome v).answer.verdict ≡ Ok tt → (e : ℕ) × (said ≡ Ok e)
+      go (Err r) q k = absurd (let z : ◌≡◌ {A = ℕ} 0 1 = cc in omega arith)
+      go (Ok e) q k = (e, q)

@@ -11,7 +11,8 @@ use mathlib.Core.List.{List}
 use mathlib.Core.Logic.{◌⊎◌, inl, inr}
 use lib.Dec.{T, leb}
 use Rattle.rules.specs.Numbers.{Ref, Ptr, Array, name_count, most_items, scratch_size}
-use Rattle.rules.specs.declared.Step.TheVariants.{Next}
+use Rattle.std.specs.Prelude.{Ok}
+use Rattle.rules.specs.declared.Fault.TheVariants.{ShortScratch}
 use Rattle.rules.specs.Format.{check, read, Accepted}
 use Rattle.rules.specs.View.{rows, kind, inner, is_type, items, item_name, field_count, field}
 use Rattle.rules.specs.Answer.{read_with}
@@ -37,6 +38,6 @@ module _ (s : List ℕ) (acc : Accepted s) where
   pub field_row : (i j : ℕ) → IsStruct s i → j < field_count s i → field s i j < rows s
   field_row i j h l = ((item-of s acc i h.below).as_struct h.is_struct).field_below j l
 
-pub accepted-is : (scratch : ℕ) (s : List ℕ) (e : ℕ) → read_with scratch s ≡ Next e → Accepted s
+pub accepted-is : (scratch : ℕ) (s : List ℕ) (e : ℕ) → read_with scratch s ≡ Ok e → Accepted s
 unfolding read_with
-accepted-is n s e h = record { ending = e; is = (after_is (check (leb scratch_size n) 1 0 0) (λ _. read s) h).2 }
+accepted-is n s e h = record { ending = e; is = (after_is (check (leb scratch_size n) ShortScratch 0 0) (λ _. read s) h).2 }

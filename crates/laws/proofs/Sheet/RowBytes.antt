@@ -13,6 +13,7 @@ use lib.ListN.{length, get_or, take, drop, length-drop}
 use lib.Seq.{get_or-take, get_or-drop, length-take-le}
 use borrow.Author.Tests.{eq-eqb, lt-ltb, le-ltb}
 use Rattle.rules.specs.Base.{if'◌then◌else◌}
+use Rattle.rules.specs.declared.Fault.TheVariants.{BadValue}
 use Rattle.rules.specs.Format.{pair_at, offset, limited, body_of, row, same_bytes, equal_rows, fresh, item_of, item, Accepted}
 use Rattle.rules.specs.View.{rows, items}
 use Rattle.laws.specs.RowTrees.{begins, row_bytes}
@@ -76,13 +77,14 @@ module _ (s : List ℕ) (acc : Accepted s) where
 
   row_within : (r : ℕ) → r < rows s → start r + 2 ≤ length s
   unfolding row
-  row_within r l = limited-within s 6 14 (start r) (after_is (limited s 6 14 (start r)) (body_of s r (pair_at s (start r))) ((bodies_of s acc).row_read r l)).1
+  row_within r l = limited-within s BadValue 14 (start r) (after_is (limited s BadValue 14 (start r)) (body_of s r (pair_at s (start r)))
+      ((bodies_of s acc).row_read r l)).1
 
   item-within : (i : ℕ) → i < items s → start (rows s + i) + 2 ≤ length s
   unfolding item
   item-within i l =
       let at = start (rows s + i) in
-      limited-within s 6 9 at (after_is (limited s 6 9 at) (item_of s (rows s) (pair_at s at)) ((bodies_of s acc).item-read i l)).1
+      limited-within s BadValue 9 at (after_is (limited s BadValue 9 at) (item_of s (rows s) (pair_at s at)) ((bodies_of s acc).item-read i l)).1
 
   within : (b : ℕ) → b ≤ rows s → start b ≤ length s
   within b l = go (next? b l)

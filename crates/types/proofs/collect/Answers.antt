@@ -6,10 +6,10 @@ use Rattle.types.proofs.collect.Goals as goal
 pub visit_items-rows-requires : goal.visit_items-rows-requires
 visit_items-rows-requires c = held_none c.requires c.clear.ensures
 
-pub collect_names-errors-requires : goal.collect_names-errors-requires
-collect_names-errors-requires c = named_start c.requires
+pub collect_names-requires : goal.collect_names-requires
+collect_names-requires c = named_start c.requires
 
 pub returns : goal.returns
 returns c =
-    whole c.requires c.clear.ensures c.visit_items-rows.ensures c.visit_items-rows.auto.scratch c.collect_names-errors.ensures
+    whole c.requires c.clear.ensures c.visit_items-rows.ensures c.visit_items-rows.auto.scratch c.collect_names.ensures
     c.required_trivial_reasons.ensures

@@ -1,6 +1,5 @@
 -- `unpin::note_items` notes the methods that are reasons, one after another. The invariant: those of the first i items are noted.
 -- Assumes nothing.
-use Prim.Native.Nat.{◌-◌, ◌≤◌}
 use mathlib.Core.Path.{◌≡◌}
 use lib.ListN.{length}
 use Rattle.rules.specs.Numbers.{name_count}
@@ -11,7 +10,4 @@ use Rattle.unpin.specs.Found.{Noted}
 use Rattle.unpin.proofs.note_items.Given as goal
 
 abbrev pub invariant-loop-i : goal.invariant-loop-i
-invariant-loop-i l = (l.i ≤ l.count) × (length l.reasons ≡ name_count) × Noted l.initial.reasons (over l.i (find_item l.s (tabled l.s l.names))) l.reasons
-
-abbrev pub decreases-loop-i : goal.decreases-loop-i
-decreases-loop-i l = l.count - l.i
+invariant-loop-i l = (length l.reasons ≡ name_count) × Noted l.initial.reasons (over l.i (find_item l.s (tabled l.s l.names))) l.reasons

@@ -1,5 +1,4 @@
 use borrow.Author.Rules.{rules}
-use native.Mathlib.Omega.{arith}
 use Prim.Native.Nat.{ℕ}
 use mathlib.Core.Path.{◌∙◌, ap}
 use mathlib.Core.List.{List}
@@ -8,12 +7,12 @@ use Rattle.bridge_core.proofs.Parts.{counted_start, counted-more, counted-all}
 use Rattle.bridge_core.proofs.answers.reasons.Goals as goal
 
 pub loop-n-init : goal.loop-n-init
-loop-n-init c = (omega arith, search rules, counted_start _)
+loop-n-init c = counted_start _
 
 pub loop-n-preserved : goal.loop-n-preserved
 loop-n-preserved c =
-    let more = counted-more c.args.table.now c.loop-n.n (search rules) c.reasons_for.ensures in
-    (search rules, search rules, ap (λ (l : List ℕ). set l c.loop-n.n c.reasons_for.result) c.loop-n.invariant.2 ∙ more)
+    ap (λ (l : List ℕ). set l c.loop-n.n c.reasons_for.result) c.loop-n.invariant
+    ∙ counted-more c.args.table.now c.loop-n.n (search rules) c.reasons_for.ensures
 
 pub returns : goal.returns
-returns c = c.loop-n.invariant.2 ∙ counted-all c.args.table.now c.loop-n.n (search rules)
+returns c = c.loop-n.invariant ∙ counted-all c.args.table.now c.loop-n.n (search rules)

@@ -3,4 +3,4 @@ use Rattle.bridge_core.proofs.Parts.{refused-is}
 use Rattle.bridge_core.proofs.answers.refused.Goals as goal
 
 pub returns : goal.returns
-returns c = refused-is _ _ _ c.empty-none.ensures
+returns c = refused-is _ _ c.empty-none.ensures

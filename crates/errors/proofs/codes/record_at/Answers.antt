@@ -7,4 +7,4 @@ unfolding record_at
 returns c =
     let detail = c.pair_at-detail.ensures in
     let first = c.pair_at-a.ensures in
-    rw (c.place_of-place.ensures, detail, first)
+    rw (c.place_of.ensures, detail, first)

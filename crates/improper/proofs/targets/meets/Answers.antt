@@ -1,14 +1,20 @@
--- `improper::targets::meets` meets its contract: where none of the four pairs of words shares a bit, the sets share no name.
--- Assumes nothing.
-use mathlib.Core.Path.{◌≡◌, sym, ◌∙◌}
-use lib.ListN.{length}
-use borrow.Author.Rules.{rules}
-use Rattle.improper.proofs.Apart.{four-apart}
+use Rattle.std.proofs.Common.{◌≡◌, false, length, arith, rules}
+use borrow.Author.Count.{below_more}
+use Rattle.laws.proofs.Base.Tests.{neither}
+use Rattle.improper.proofs.Apart.{shares, apart}
 use Rattle.improper.proofs.targets.meets.Goals as goal
+
+pub loop-q-init : goal.loop-q-init
+loop-q-init c = λ e j l. absurd (omega arith)
+
+pub loop-q-preserved : goal.loop-q-preserved
+loop-q-preserved c =
+    λ e.
+    let none = neither c.loop-q.met (shares c.args.words c.args.found.words c.loop-q.q) e in
+    below_more (λ j. shares c.args.words c.args.found.words j ≡ false) c.loop-q.q (c.loop-q.invariant none.0) none.1
 
 pub returns : goal.returns
 returns c =
     λ e.
     let long : length c.args.words ≡ 4 = search rules in
-    let joined = sym (rw (c.or-low.ensures, c.or-high.ensures) at c.or.ensures) ∙ e in
-    four-apart _ _ long _ _ _ _ c.share.ensures c.share-2.ensures c.share-3.ensures c.share-4.ensures joined
+    apart _ _ long (λ q l. c.loop-q.invariant e q (omega arith))

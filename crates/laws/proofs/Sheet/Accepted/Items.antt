@@ -10,10 +10,10 @@ use lib.ListN.{length}
 use lib.Dec.{eqb}
 use borrow.Author.Tests.{eqb-true}
 use Rattle.rules.specs.Numbers.{Ident, Struct, Enum, CxxType, RustType, CxxFunction, RustFunction, TypeAlias, Impl}
-use Rattle.rules.specs.declared.Step.{Step}
-use Rattle.rules.specs.declared.Step.TheVariants.{Next}
+use Rattle.std.specs.Prelude.{Ok}
 use Rattle.rules.specs.Base.{if'◌then◌else◌}
-use Rattle.rules.specs.Format.{pair_at, offset, limited, function, item_kinds, item_of, item, Accepted}
+use Rattle.rules.specs.declared.Fault.TheVariants.{BadValue, BadRow}
+use Rattle.rules.specs.Format.{Step, pair_at, offset, limited, function, item_kinds, item_of, item, Accepted}
 use Rattle.rules.specs.View.{type_kind, function_kind, rows, kind, items, item_place, item_kind}
 use Rattle.rules.specs.View.{item_is, is_type, is_function, item_name, past, lifetimes_place, lifetime_count, lifetime, derives_place, derive_count}
 use Rattle.rules.specs.View.{derive, rest}
@@ -110,8 +110,8 @@ module _ (s : List ℕ) (T : ℕ) where
   function-reads flags =
       record {
         of = λ at h.
-            let named-flagged = limited-reads s 6 256 then limited-reads s 6 flags in
-            let a = (named-flagged then list-reads s 8 6 256 then receiver-reads s then or_none-reads s T then list-reads s 16 7 T).of at h in
+            let named-flagged = limited-reads s BadValue 256 then limited-reads s BadValue flags in
+            let a = (named-flagged then list-reads s 8 BadValue 256 then receiver-reads s then or_none-reads s T then list-reads s 16 BadRow T).of at h in
             let b = a.1.1.1 in
             let lifetimes = b.2 in
             let receiver = a.1.1.2 in
@@ -141,14 +141,14 @@ module _ (s : List ℕ) (acc : Accepted s) (i : ℕ) (l : i < items s) where
   ending : ℕ
   ending = (bodies_of s acc).start (suc (rows s + i))
 
-  item-steps : (item_kind s i < 9) × (item_of s (rows s) (item_kind s i) from ≡ Next ending)
+  item-steps : (item_kind s i < 9) × (item_of s (rows s) (item_kind s i) from ≡ Ok ending)
   unfolding item item_kind item_place from ending
   item-steps =
       let b = bodies_of s acc in
       let at = offset s (rows s + i) in
-      let h : item s (rows s) at ≡ Next (b.start (suc (rows s + i))) = rw (b.item-at i l) (b.item-read i l) in
-      let a = after_is (limited s 6 9 at) (item_of s (rows s) (pair_at s at)) h in
-      let c = (limited-reads s 6 9).of at a.1 in
+      let h : item s (rows s) at ≡ Ok (b.start (suc (rows s + i))) = rw (b.item-at i l) (b.item-read i l) in
+      let a = after_is (limited s BadValue 9 at) (item_of s (rows s) (pair_at s at)) h in
+      let c = (limited-reads s BadValue 9).of at a.1 in
       (c.0, rw c.1 at a.2)
 
   by_kind : (k : ℕ) {m : ℕ → Step} {P : ℕ → ℕ → Type 0} → Reads m P → item_of s (rows s) k ≡ m → item_kind s i ≡ k → P from ending
@@ -164,10 +164,10 @@ module _ (s : List ℕ) (acc : Accepted s) (i : ℕ) (l : i < items s) where
   head-is : (k : ℕ) → k < 9 → type_kind k ≡ true → item_kind s i ≡ k → HeadAt s from
   unfolding item_of item_kinds
   head-is zero l t e = never t
-  head-is (suc zero) l t e = (by_kind 1 (head-reads s then list-reads s 64 7 (rows s)) refl e).1.0
-  head-is (suc (suc zero)) l t e = (by_kind 2 (head-reads s then repr-reads s (rows s) then limited-reads s 6 2 then variants-reads s) refl e).1.1.1.0
-  head-is (suc (suc (suc zero))) l t e = (by_kind 3 (head-reads s then limited-reads s 6 4) refl e).1.0
-  head-is (suc (suc (suc (suc zero)))) l t e = (by_kind 4 (head-reads s then limited-reads s 6 4) refl e).1.0
+  head-is (suc zero) l t e = (by_kind 1 (head-reads s then list-reads s 64 BadRow (rows s)) refl e).1.0
+  head-is (suc (suc zero)) l t e = (by_kind 2 (head-reads s then repr-reads s (rows s) then limited-reads s BadValue 2 then variants-reads s) refl e).1.1.1.0
+  head-is (suc (suc (suc zero))) l t e = (by_kind 3 (head-reads s then limited-reads s BadValue 4) refl e).1.0
+  head-is (suc (suc (suc (suc zero)))) l t e = (by_kind 4 (head-reads s then limited-reads s BadValue 4) refl e).1.0
   head-is (suc (suc (suc (suc (suc zero))))) l t e = never t
   head-is (suc (suc (suc (suc (suc (suc zero)))))) l t e = never t
   head-is (suc (suc (suc (suc (suc (suc (suc zero))))))) l t e = (by_kind 7 (head-reads s) refl e).0
@@ -197,14 +197,14 @@ module _ (s : List ℕ) (acc : Accepted s) (i : ℕ) (l : i < items s) where
   struct_is : item_kind s i ≡ Struct → StructOf s i
   unfolding item_of item_kinds field_count field
   struct_is k =
-      let a = by_kind Struct (head-reads s then list-reads s 64 7 (rows s)) refl k in
+      let a = by_kind Struct (head-reads s then list-reads s 64 BadRow (rows s)) refl k in
       let e : a.0 ≡ rest s i = a.1.1 ∙ head-ends in
       record { few-fields = rw e at a.2.0.few; field_below = rw e at a.2.0.each; fields-inside = rw e at a.2.0.inside }
 
   enum_is : item_kind s i ≡ Enum → EnumOf s i
   unfolding item_of item_kinds enum_repr enum_variants enum_defaults
   enum_is k =
-      let a = by_kind Enum (head-reads s then repr-reads s (rows s) then limited-reads s 6 2 then variants-reads s) refl k in
+      let a = by_kind Enum (head-reads s then repr-reads s (rows s) then limited-reads s BadValue 2 then variants-reads s) refl k in
       let e : a.1.1.0 ≡ rest s i = a.1.1.1.1 ∙ head-ends in
       let v : a.0 ≡ rest s i + 4 = omega (arith, a.1.1.2.1, a.1.2.1) in
       let w : rest s i + 4 + 2 ≡ rest s i + 6 = omega arith in
@@ -254,7 +254,7 @@ module _ (s : List ℕ) (acc : Accepted s) (i : ℕ) (l : i < items s) where
   impl-is : item_kind s i ≡ Impl → ImplOf s i
   unfolding item_of item_kinds impl_row from
   impl-is k =
-      let a = by_kind Impl (limited-reads s 7 (rows s) then limited-reads s 6 2 then list-reads s 8 6 256) refl k in
+      let a = by_kind Impl (limited-reads s BadRow (rows s) then limited-reads s BadValue 2 then list-reads s 8 BadValue 256) refl k in
       let e : a.0 ≡ item_place s i + 6 = omega (arith, a.1.1.1, a.1.2.1) in
       record { row_below = a.1.1.0; lifetimes = lifetimes-are (item_place s i + 6) (lifetimes-far 8 k refl) (rw e at a.2.0) }
 
@@ -279,7 +279,7 @@ module _ (s : List ℕ) (acc : Accepted s) (i : ℕ) (l : i < items s) where
   struct-size : item_kind s i ≡ Struct → ending ≡ item_place s i + 10 + 2 * lifetime_count s i + 2 * derive_count s i + 2 * field_count s i
   unfolding item_of item_kinds field_count past
   struct-size k =
-      let a = by_kind Struct (head-reads s then list-reads s 64 7 (rows s)) refl k in
+      let a = by_kind Struct (head-reads s then list-reads s 64 BadRow (rows s)) refl k in
       let e : a.0 ≡ rest s i = a.1.1 ∙ head-ends in
       let q : ending ≡ rest s i + 2 + 2 * pair_at s (rest s i) = rw e at a.2.1 in
       omega (arith, rest-is (kind-type s i 1 k))
@@ -287,7 +287,7 @@ module _ (s : List ℕ) (acc : Accepted s) (i : ℕ) (l : i < items s) where
   enum-size : item_kind s i ≡ Enum → ending ≡ item_place s i + 16 + 2 * lifetime_count s i + 2 * derive_count s i
   unfolding item_of item_kinds
   enum-size k =
-      let a = by_kind Enum (head-reads s then repr-reads s (rows s) then limited-reads s 6 2 then variants-reads s) refl k in
+      let a = by_kind Enum (head-reads s then repr-reads s (rows s) then limited-reads s BadValue 2 then variants-reads s) refl k in
       let e : a.1.1.0 ≡ rest s i = a.1.1.1.1 ∙ head-ends in
       omega (arith, a.1.1.2.1, a.1.2.1, a.2.1, rest-is (kind-type s i 2 k))
 
@@ -301,8 +301,8 @@ module _ (s : List ℕ) (acc : Accepted s) (i : ℕ) (l : i < items s) where
       of k t e a = omega (arith, a.1.1 ∙ head-ends, a.2.1, rest-is (kind-type s i k e ∙ t))
 
       by : (item_kind s i ≡ CxxType) ⊎ (item_kind s i ≡ RustType) → ending ≡ item_place s i + 10 + 2 * lifetime_count s i + 2 * derive_count s i
-      by (inl e) = of 3 refl e (by_kind 3 (head-reads s then limited-reads s 6 4) refl e)
-      by (inr e) = of 4 refl e (by_kind 4 (head-reads s then limited-reads s 6 4) refl e)
+      by (inl e) = of 3 refl e (by_kind 3 (head-reads s then limited-reads s BadValue 4) refl e)
+      by (inr e) = of 4 refl e (by_kind 4 (head-reads s then limited-reads s BadValue 4) refl e)
 
   alias-size : item_kind s i ≡ TypeAlias → ending ≡ item_place s i + 8 + 2 * lifetime_count s i + 2 * derive_count s i
   unfolding item_of item_kinds
@@ -329,7 +329,7 @@ module _ (s : List ℕ) (acc : Accepted s) (i : ℕ) (l : i < items s) where
   impl-size : item_kind s i ≡ Impl → ending ≡ item_place s i + 8 + 2 * lifetime_count s i
   unfolding item_of item_kinds past lifetime_count from
   impl-size k =
-      let a = by_kind Impl (limited-reads s 7 (rows s) then limited-reads s 6 2 then list-reads s 8 6 256) refl k in
+      let a = by_kind Impl (limited-reads s BadRow (rows s) then limited-reads s BadValue 2 then list-reads s 8 BadValue 256) refl k in
       let e : a.0 ≡ item_place s i + 6 = omega (arith, a.1.1.1, a.1.2.1) in
       let q : ending ≡ item_place s i + 6 + 2 + 2 * pair_at s (item_place s i + 6) = rw e at a.2.1 in
       rw (lifetimes-far 8 k refl) (omega arith)

@@ -8,10 +8,10 @@ use native.Mathlib.Omega.{arith}
 use lib.ListN.{get_or}
 use borrow.Author.Tests.{lt-leb, le-leb}
 use Rattle.rules.specs.Numbers.{Ident, Ref, Ptr, SliceRef, Fn}
-use Rattle.rules.specs.declared.Step.{Step}
-use Rattle.rules.specs.declared.Step.TheVariants.{Next}
+use Rattle.std.specs.Prelude.{Ok}
 use Rattle.rules.specs.Base.{if'◌then◌else◌}
-use Rattle.rules.specs.Format.{end, pair_at, offset, limited, with_flags, signature, row_kinds, body_of, row, Accepted}
+use Rattle.rules.specs.declared.Fault.TheVariants.{BadValue, BadRow}
+use Rattle.rules.specs.Format.{Step, end, pair_at, offset, limited, with_flags, signature, row_kinds, body_of, row, Accepted}
 use Rattle.rules.specs.View.{rows, kind, row_name, row_flags, inner, fn_return, fn_arg_count, fn_arg, past}
 use Rattle.laws.specs.Kinds.{RowOrNone}
 use Rattle.laws.proofs.Sheet.Accepted.Steps.{after_is, Reads, ◌then◌, nothing_read, ListAt, limited-reads, or_none-reads, list-reads}
@@ -47,7 +47,7 @@ module _ (s : List ℕ) (r : ℕ) where
   signature-reads =
       record {
         of = λ at h.
-            let a = (limited-reads s 6 4 then or_none-reads s r then list-reads s 16 7 r).of at h in
+            let a = (limited-reads s BadValue 4 then or_none-reads s r then list-reads s 16 BadRow r).of at h in
             let p : a.1.0 ≡ at + 2 = a.1.1.1 in
             let q : a.0 ≡ at + 4 = omega (arith, a.1.2.1) in
             (record { flags = a.1.1.0; returns = rw p at a.1.2.0; args = rw q at a.2.0 }, rw q at a.2.1);
@@ -58,15 +58,15 @@ module _ (s : List ℕ) (r : ℕ) where
   flagged-reads n =
       record {
         of = λ at h.
-            let a = (limited-reads s 6 n then limited-reads s 7 r).of at h in
+            let a = (limited-reads s BadValue n then limited-reads s BadRow r).of at h in
             ((a.1.0, rw a.1.1 at a.2.0), omega (arith, a.1.1, a.2.1));
       }
 
 -- the five shapes that a row's body has, by its kind
 module _ (s : List ℕ) where
   pub data Shape (k : ℕ) : Type 0 where
-    named : k ≡ Ident → ((r : ℕ) → body_of s r k ≡ limited s 6 256) → Shape k
-    near : has_inner k ≡ true → k ≤ 6 → ((r : ℕ) → body_of s r k ≡ limited s 7 r) → Shape k
+    named : k ≡ Ident → ((r : ℕ) → body_of s r k ≡ limited s BadValue 256) → Shape k
+    near : has_inner k ≡ true → k ≤ 6 → ((r : ℕ) → body_of s r k ≡ limited s BadRow r) → Shape k
     far : (n : ℕ) → has_inner k ≡ true → 6 < k → ((r : ℕ) → body_of s r k ≡ with_flags s n r) → Shape k
     bare : has_inner k ≡ false → ((r : ℕ) → body_of s r k ≡ end) → Shape k
     fn : k ≡ Fn → ((r : ℕ) → body_of s r k ≡ signature s r) → Shape k
@@ -98,13 +98,13 @@ module _ (s : List ℕ) (acc : Accepted s) (r : ℕ) (l : r < rows s) where
   ending : ℕ
   ending = (bodies_of s acc).start (suc r)
 
-  row-steps : (kind s r < 14) × (body_of s r (kind s r) from ≡ Next ending)
+  row-steps : (kind s r < 14) × (body_of s r (kind s r) from ≡ Ok ending)
   unfolding row kind from ending
   row-steps =
       let b = bodies_of s acc in
-      let h : row s r (offset s r) ≡ Next (b.start (suc r)) = rw (b.row-at r l) (b.row_read r l) in
-      let a = after_is (limited s 6 14 (offset s r)) (body_of s r (pair_at s (offset s r))) h in
-      let c = (limited-reads s 6 14).of (offset s r) a.1 in
+      let h : row s r (offset s r) ≡ Ok (b.start (suc r)) = rw (b.row-at r l) (b.row_read r l) in
+      let a = after_is (limited s BadValue 14 (offset s r)) (body_of s r (pair_at s (offset s r))) h in
+      let c = (limited-reads s BadValue 14).of (offset s r) a.1 in
       (c.0, rw c.1 at a.2)
 
   by_kind : (k : ℕ) {m : ℕ → Step} {P : ℕ → ℕ → Type 0} → Reads m P → body_of s r k ≡ m → kind s r ≡ k → P from ending
@@ -112,12 +112,12 @@ module _ (s : List ℕ) (acc : Accepted s) (r : ℕ) (l : r < rows s) where
 
   named-is : kind s r ≡ Ident → row_name s r < 256
   unfolding body_of row_kinds row_name from
-  named-is e = (by_kind Ident (limited-reads s 6 256) refl e).0
+  named-is e = (by_kind Ident (limited-reads s BadValue 256) refl e).0
 
   -- the row inside stands next to the kind
-  inner-near : (k : ℕ) → body_of s r k ≡ limited s 7 r → k ≤ 6 → kind s r ≡ k → inner s r < r
+  inner-near : (k : ℕ) → body_of s r k ≡ limited s BadRow r → k ≤ 6 → kind s r ≡ k → inner s r < r
   unfolding inner if'◌then◌else◌ from
-  inner-near k b g e = rw (le-leb (kind s r) 6 (rw e g), inner) (by_kind k (limited-reads s 7 r) b e).0
+  inner-near k b g e = rw (le-leb (kind s r) 6 (rw e g), inner) (by_kind k (limited-reads s BadRow r) b e).0
 
   -- or behind flags or a length
   flags-are : (k n : ℕ) → body_of s r k ≡ with_flags s n r → kind s r ≡ k → row_flags s r < n
@@ -164,13 +164,13 @@ module _ (s : List ℕ) (acc : Accepted s) (r : ℕ) (l : r < rows s) where
 
   -- ## How long it is, by its shape
 
-  pub named-long : (k : ℕ) → body_of s r k ≡ limited s 6 256 → kind s r ≡ k → (bodies_of s acc).start (suc r) ≡ offset s r + 4
+  pub named-long : (k : ℕ) → body_of s r k ≡ limited s BadValue 256 → kind s r ≡ k → (bodies_of s acc).start (suc r) ≡ offset s r + 4
   unfolding from ending
-  named-long k b e = omega (arith, (by_kind k (limited-reads s 6 256) b e).1)
+  named-long k b e = omega (arith, (by_kind k (limited-reads s BadValue 256) b e).1)
 
-  pub near-long : (k : ℕ) → body_of s r k ≡ limited s 7 r → kind s r ≡ k → (bodies_of s acc).start (suc r) ≡ offset s r + 4
+  pub near-long : (k : ℕ) → body_of s r k ≡ limited s BadRow r → kind s r ≡ k → (bodies_of s acc).start (suc r) ≡ offset s r + 4
   unfolding from ending
-  near-long k b e = omega (arith, (by_kind k (limited-reads s 7 r) b e).1)
+  near-long k b e = omega (arith, (by_kind k (limited-reads s BadRow r) b e).1)
 
   pub far-long : (k n : ℕ) → body_of s r k ≡ with_flags s n r → kind s r ≡ k → (bodies_of s acc).start (suc r) ≡ offset s r + 6
   unfolding from ending

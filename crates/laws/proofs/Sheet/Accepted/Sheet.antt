@@ -8,9 +8,10 @@ use native.Mathlib.Omega.{arith}
 use lib.ListN.{length}
 use lib.Dec.{ltb, leb, eqb}
 use borrow.Author.Tests.{ltb-true, ltb-false, leb-true, eqb-true}
-use Rattle.rules.specs.declared.Step.{Step}
-use Rattle.rules.specs.declared.Step.TheVariants.{Next}
-use Rattle.rules.specs.Format.{check, after, each, offset, row, fresh, row_at, item, item_at, read, Accepted}
+use Rattle.std.specs.Prelude.{Ok}
+use Rattle.rules.specs.declared.Fault.{Fault}
+use Rattle.rules.specs.declared.Fault.TheVariants.{LongSheet, ShortSheet, TooMany, Misplaced, EqualRow}
+use Rattle.rules.specs.Format.{Step, check, after, each, offset, row, fresh, row_at, item, item_at, read, Accepted}
 use Rattle.rules.specs.View.{rows, items}
 use Rattle.laws.proofs.Sheet.Accepted.Steps.{after_is, check-is, EachRead, each_read}
 
@@ -27,10 +28,10 @@ module _ (s : List ℕ) where
     pub first : start 0 ≡ 4 + 2 * (rows s + items s)
     pub last : start (rows s + items s) ≡ length s
     pub row-at : (r : ℕ) → r < rows s → offset s r ≡ start r
-    pub row_read : (r : ℕ) → r < rows s → row s r (start r) ≡ Next (start (suc r))
+    pub row_read : (r : ℕ) → r < rows s → row s r (start r) ≡ Ok (start (suc r))
     pub row_fresh : (r : ℕ) → r < rows s → fresh s r r (start (suc r)) ≡ true
     pub item-at : (i : ℕ) → i < items s → offset s (rows s + i) ≡ start (rows s + i)
-    pub item-read : (i : ℕ) → i < items s → item s (rows s) (start (rows s + i)) ≡ Next (start (suc (rows s + i)))
+    pub item-read : (i : ℕ) → i < items s → item s (rows s) (start (rows s + i)) ≡ Ok (start (suc (rows s + i)))
 
   -- ## The steps of `read`
 
@@ -41,11 +42,11 @@ module _ (s : List ℕ) where
     the_items : EachRead (item_at s (rows s)) (items s) 0 middle (length s)
 
   -- a test of the sheet holds, and goes on from where it stood
-  tested : (m : Step) (b : Bool) (w p : ℕ) {q : ℕ} → after m (check b w p) ≡ Next q → (m ≡ Next q) × (b ≡ true)
+  tested : (m : Step) (b : Bool) (w : Fault) (p : ℕ) {q : ℕ} → after m (check b w p) ≡ Ok q → (m ≡ Ok q) × (b ≡ true)
   tested m b w p h =
       let a = after_is m (check b w p) h in
       let c = check-is b w p a.2 in
-      (a.1 ∙ ap Next c.1, c.0)
+      (a.1 ∙ ap (λ (p : ℕ). Ok p) c.1, c.0)
 
   parts : Accepted s → Parts
   unfolding read
@@ -53,22 +54,22 @@ module _ (s : List ℕ) where
       let T = rows s in
       let A = items s in
       let contents = 4 + 2 * (T + A) in
-      let c1 = check (leb (length s) 32768) 2 0 contents in
-      let c2 = after c1 (check (leb 4 (length s)) 3 0) in
-      let c3 = after c2 (check (leb T 1024) 4 0) in
-      let c4 = after c3 (check (leb A 255) 4 2) in
-      let c5 = after c4 (check (leb contents (length s)) 5 0) in
+      let c1 = check (leb (length s) 32768) LongSheet 0 contents in
+      let c2 = after c1 (check (leb 4 (length s)) ShortSheet 0) in
+      let c3 = after c2 (check (leb T 1024) TooMany 0) in
+      let c4 = after c3 (check (leb A 255) TooMany 2) in
+      let c5 = after c4 (check (leb contents (length s)) Misplaced 0) in
       let c6 = after c5 (each (row_at s) T 0) in
       let c7 = after c6 (each (item_at s T) A 0) in
-      let e7 = after_is c7 (λ at. check (eqb at (length s)) 5 at at) acc.is in
+      let e7 = after_is c7 (λ at. check (eqb at (length s)) Misplaced at at) acc.is in
       let e6 = after_is c6 (each (item_at s T) A 0) e7.1 in
       let e5 = after_is c5 (each (row_at s) T 0) e6.1 in
-      let e4 = tested c4 (leb contents (length s)) 5 0 e5.1 in
-      let e3 = tested c3 (leb A 255) 4 2 e4.0 in
-      let e2 = tested c2 (leb T 1024) 4 0 e3.0 in
-      let e1 = tested c1 (leb 4 (length s)) 3 0 e2.0 in
-      let e0 = check-is (leb (length s) 32768) 2 0 e1.0 in
-      let ends : e7.0 ≡ length s = eqb-true e7.0 (length s) (check-is (eqb e7.0 (length s)) 5 e7.0 e7.2).0 in
+      let e4 = tested c4 (leb contents (length s)) Misplaced 0 e5.1 in
+      let e3 = tested c3 (leb A 255) TooMany 2 e4.0 in
+      let e2 = tested c2 (leb T 1024) TooMany 0 e3.0 in
+      let e1 = tested c1 (leb 4 (length s)) ShortSheet 0 e2.0 in
+      let e0 = check-is (leb (length s) 32768) LongSheet 0 e1.0 in
+      let ends : e7.0 ≡ length s = eqb-true e7.0 (length s) (check-is (eqb e7.0 (length s)) Misplaced e7.0 e7.2).0 in
       record {
         sheet =
             record {
@@ -78,8 +79,8 @@ module _ (s : List ℕ) where
               contents = leb-true contents (length s) e4.1;
             };
         middle = e6.0;
-        the-rows = each_read (row_at s) T 0 contents (subst (λ (x : ℕ). each (row_at s) T 0 x ≡ Next e6.0) (sym e0.1) e5.2);
-        the_items = each_read (item_at s T) A 0 e6.0 (subst (λ (x : ℕ). each (item_at s T) A 0 e6.0 ≡ Next x) ends e6.2);
+        the-rows = each_read (row_at s) T 0 contents (subst (λ (x : ℕ). each (row_at s) T 0 x ≡ Ok e6.0) (sym e0.1) e5.2);
+        the_items = each_read (item_at s T) A 0 e6.0 (subst (λ (x : ℕ). each (item_at s T) A 0 e6.0 ≡ Ok x) ends e6.2);
       }
 
   pub sheet-of : Accepted s → SheetOf
@@ -87,21 +88,21 @@ module _ (s : List ℕ) where
 
   -- ## The bodies
 
-  row_is : (r at : ℕ) {q : ℕ} → row_at s r at ≡ Next q → (offset s r ≡ at) × (row s r at ≡ Next q) × (fresh s r r q ≡ true)
+  row_is : (r at : ℕ) {q : ℕ} → row_at s r at ≡ Ok q → (offset s r ≡ at) × (row s r at ≡ Ok q) × (fresh s r r q ≡ true)
   unfolding row_at
   row_is r at h =
-      let rest : ℕ → Step = λ next. check (fresh s r r next) 8 at next in
-      let a = after_is (check (eqb (offset s r) at) 5 (4 + 2 * r) at) (λ _. after (row s r at) rest) h in
+      let rest : ℕ → Step = λ next. check (fresh s r r next) EqualRow at next in
+      let a = after_is (check (eqb (offset s r) at) Misplaced (4 + 2 * r) at) (λ _. after (row s r at) rest) h in
       let b = after_is (row s r at) rest a.2 in
-      let c = check-is (fresh s r r b.0) 8 at b.2 in
-      (eqb-true (offset s r) at (check-is (eqb (offset s r) at) 5 (4 + 2 * r) a.1).0, b.1 ∙ ap Next c.1, rw c.1 at c.0)
+      let c = check-is (fresh s r r b.0) EqualRow at b.2 in
+      (eqb-true (offset s r) at (check-is (eqb (offset s r) at) Misplaced (4 + 2 * r) a.1).0, b.1 ∙ ap (λ (p : ℕ). Ok p) c.1, rw c.1 at c.0)
 
-  item-is : (i at : ℕ) {q : ℕ} → item_at s (rows s) i at ≡ Next q → (offset s (rows s + i) ≡ at) × (item s (rows s) at ≡ Next q)
+  item-is : (i at : ℕ) {q : ℕ} → item_at s (rows s) i at ≡ Ok q → (offset s (rows s + i) ≡ at) × (item s (rows s) at ≡ Ok q)
   unfolding item_at
   item-is i at h =
       let b = rows s + i in
-      let a = after_is (check (eqb (offset s b) at) 5 (4 + 2 * b) at) (λ _. item s (rows s) at) h in
-      (eqb-true (offset s b) at (check-is (eqb (offset s b) at) 5 (4 + 2 * b) a.1).0, a.2)
+      let a = after_is (check (eqb (offset s b) at) Misplaced (4 + 2 * b) at) (λ _. item s (rows s) at) h in
+      (eqb-true (offset s b) at (check-is (eqb (offset s b) at) Misplaced (4 + 2 * b) a.1).0, a.2)
 
   module _ (p : Parts) where
     start_at : Bool → ℕ → ℕ
@@ -132,14 +133,14 @@ module _ (s : List ℕ) where
         go false e = let z : rows s + i - rows s ≡ i = omega arith in ap p.the_items.start z
 
     row-there : (r : ℕ) → r < rows s
-        → (offset s r ≡ start_of r) × (row s r (start_of r) ≡ Next (start_of (suc r))) × (fresh s r r (start_of (suc r)) ≡ true)
+        → (offset s r ≡ start_of r) × (row s r (start_of r) ≡ Ok (start_of (suc r))) × (fresh s r r (start_of (suc r)) ≡ true)
     row-there r l =
         let z : 0 + r ≡ r = omega arith in
         let a = row_is r (p.the-rows.start r) (rw z at (p.the-rows.body r l)) in
         rw (start-row r (omega arith), start-row (suc r) l) a
 
     item-there : (i : ℕ) → i < items s
-        → (offset s (rows s + i) ≡ start_of (rows s + i)) × (item s (rows s) (start_of (rows s + i)) ≡ Next (start_of (suc (rows s + i))))
+        → (offset s (rows s + i) ≡ start_of (rows s + i)) × (item s (rows s) (start_of (rows s + i)) ≡ Ok (start_of (suc (rows s + i))))
     item-there i l =
         let z : 0 + i ≡ i = omega arith in
         let y : suc (rows s + i) ≡ rows s + suc i = omega arith in

@@ -1,9 +1,10 @@
 -- `layout::parts::put_header` stores verdict, total and count one after another.
 -- Assumes nothing.
 use Rattle.layout.specs.Layout.{header_bytes}
+use Rattle.errors.specs.Bytes.{low2, low4, low8}
 use Rattle.errors.proofs.Stores.{also}
 use Rattle.layout.proofs.parts.put_header.Goals as goal
 
 pub returns : goal.returns
-unfolding header_bytes
-returns c = also (also c.put_verdict.ensures c.put4.ensures) c.put4-2.ensures
+unfolding header_bytes low8 low4 low2
+returns c = also (also c.put_verdict.ensures c.put_low.ensures) c.put_low-2.ensures

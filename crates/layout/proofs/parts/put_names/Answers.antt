@@ -8,22 +8,12 @@ use Rattle.layout.specs.Layout.{names_bytes}
 use Rattle.errors.proofs.Stores.{also, sized}
 use Rattle.layout.proofs.parts.put_names.Goals as goal
 
-pub put_numbers-requires : goal.put_numbers-requires
-put_numbers-requires c =
-    let long : length c.args.answer.sizes ≡ 8 = search rules in
-    omega arith
-
-pub put_numbers-requires-2 : goal.put_numbers-requires-2
-put_numbers-requires-2 c =
-    let answer = c.args.answer in
-    let long : length answer.reasons ≡ 256 = search rules in
-    omega arith
-
 pub returns : goal.returns
 unfolding names_bytes
 returns c =
     let answer = c.args.answer in
     let many : length answer.reasons ≡ 256 = search rules in
     let few : length answer.sizes ≡ 8 = search rules in
-    also (also c.put_sets.ensures (sized {n = 16} c.put_numbers.ensures (omega arith)))
-    (sized {n = 512} c.put_numbers-2.ensures (omega arith))
+    let names : length answer.sets ≡ 8 = search rules in
+    also (also (sized {n = 256} c.put_list.ensures (omega arith)) (sized {n = 16} c.put_list-2.ensures (omega arith)))
+    (sized {n = 512} c.put_list-3.ensures (omega arith))

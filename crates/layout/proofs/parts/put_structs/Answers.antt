@@ -8,16 +8,6 @@ use Rattle.layout.specs.Layout.{structs_bytes}
 use Rattle.errors.proofs.Stores.{also, sized}
 use Rattle.layout.proofs.parts.put_structs.Goals as goal
 
-pub put_bytes-requires : goal.put_bytes-requires
-put_bytes-requires c =
-    let long : length c.args.answer.order ≡ 255 = search rules in
-    omega arith
-
-pub put_bytes-requires-2 : goal.put_bytes-requires-2
-put_bytes-requires-2 c =
-    let long : length c.args.answer.tiers ≡ 255 = search rules in
-    omega arith
-
 pub returns : goal.returns
 unfolding structs_bytes
 returns c =

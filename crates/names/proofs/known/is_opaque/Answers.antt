@@ -1,11 +1,11 @@
 -- `known::is_opaque` is `is_opaque` of the rules: an extern C++ type, and no alias.
 -- Assumes nothing.
-use borrow.Author.Tests.{not-true, not-false}
+use mathlib.Core.Path.{◌∙◌}
 use Rattle.names.proofs.Askers.{opaque-not, opaque-alias}
 use Rattle.names.proofs.known.is_opaque.Goals as goal
 
-pub returns-then-not-is_extern : goal.returns-then-not-is_extern
-returns-then-not-is_extern c s = opaque-not _ _ (c.is_extern.ensures s) (not-true _ c.if-not-is_extern.true-raw)
+pub returns-then-is_extern : goal.returns-then-is_extern
+returns-then-is_extern c s = opaque-alias _ _ (c.is_extern.ensures s) c.if-is_extern.true (c.is_alias.ensures s)
 
-pub returns : goal.returns
-returns c s = opaque-alias _ _ (c.is_extern.ensures s) (not-false _ c.if-not-is_extern.false-raw) (c.is_alias.ensures s)
+pub returns-else-is_extern : goal.returns-else-is_extern
+returns-else-is_extern c s = c.if-is_extern.false ∙ opaque-not _ _ (c.is_extern.ensures s) c.if-is_extern.false

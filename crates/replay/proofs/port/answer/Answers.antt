@@ -11,4 +11,4 @@ returns-then-out-lt-ROOM c = nothing (search rules)
 pub returns : goal.returns
 returns c =
     let called = c.call-page.ensures.called in
-    told blank refl called.answer called.list c.least.ensures.value c.lay.ensures (search rules)
+    told blank refl called.answer called.list c.min.ensures c.lay.ensures (search rules)

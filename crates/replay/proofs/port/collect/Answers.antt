@@ -4,4 +4,4 @@ use Rattle.replay.proofs.Asked.{collected}
 use Rattle.replay.proofs.port.collect.Goals as goal
 
 pub returns : goal.returns
-returns c = collected c.collect-collected.ensures
+returns c = collected c.collect.ensures

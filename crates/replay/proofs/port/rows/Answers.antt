@@ -6,10 +6,10 @@ use Rattle.replay.proofs.Asked.{no_rows, some-rows}
 use Rattle.replay.proofs.port.rows.Goals as goal
 
 pub collect-requires : goal.collect-requires
-collect-requires c = runnable _ _ _ (sym c.in-Next.ensures)
+collect-requires c = runnable _ _ _ (sym c.in-Ok.ensures)
 
-pub returns-in-Refused : goal.returns-in-Refused
-returns-in-Refused c = no_rows (sym c.in-Refused.ensures)
+pub returns-in-Err : goal.returns-in-Err
+returns-in-Err c = no_rows (sym c.in-Err.ensures)
 
-pub returns-in-Next : goal.returns-in-Next
-returns-in-Next c = some-rows (sym c.in-Next.ensures) c.collect.ensures
+pub returns-in-Ok : goal.returns-in-Ok
+returns-in-Ok c = some-rows (sym c.in-Ok.ensures) c.collect.ensures

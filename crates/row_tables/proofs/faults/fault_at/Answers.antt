@@ -1,16 +1,8 @@
--- `row_tables::faults::fault_at` meets its contract: it reads the table where there is an entry.
+-- `row_tables::faults::fault_at` meets its contract: what has no entry says 0.
 -- Assumes nothing.
-use mathlib.Core.Path.{sym, ◌∙◌}
-use Rattle.laws.proofs.Rows.RowTable.{read-in, read_out}
+use Rattle.std.proofs.Common.{◌∙◌}
+use Rattle.row_tables.proofs.Made.{read-or}
 use Rattle.row_tables.proofs.faults.fault_at.Goals as goal
 
-pub returns-then-at-lt-ROWS : goal.returns-then-at-lt-ROWS
-returns-then-at-lt-ROWS c =
-    let args = c.args in
-    let if1 = c.if-at-lt-ROWS in
-    c.wide.ensures ∙ sym (read-in args.table.now args.r if1.true)
-
 pub returns : goal.returns
-returns c =
-    let args = c.args in
-    sym (read_out args.table.now args.r c.if-at-lt-ROWS.false)
+returns c = c.entry_or.ensures ∙ read-or c.args.table.now c.args.r

@@ -1,7 +1,4 @@
-use Prim.Native.Nat.{ℕ}
-use mathlib.Core.Path.{◌≡◌, refl, ◌∙◌, ap}
-use mathlib.Core.List.{[], ◌∷◌}
-use native.Mathlib.Omega.{arith}
+use Rattle.std.proofs.Common.{◌≡◌, refl, ◌∙◌, ap, arith, ℕ, [], ◌∷◌}
 use Rattle.rules.specs.Base.{over, any_of}
 use Rattle.rules.specs.View.{entry, entries}
 use Rattle.laws.specs.RowTable.{marked}
@@ -10,29 +7,13 @@ use Rattle.row_tables.proofs.lifetimes.any_marked_in.Goals as goal
 
 pub loop-j-init : goal.loop-j-init
 unfolding over any_of
-loop-j-init c = (omega arith, refl)
-
-pub overflow_add-j : goal.overflow_add-j
-overflow_add-j c = omega arith
-
-pub loop-j-smaller : goal.loop-j-smaller
-loop-j-smaller c = omega arith
+loop-j-init c = refl
 
 pub loop-j-preserved : goal.loop-j-preserved
-loop-j-preserved c =
-    let args = c.args in
-    let loop = c.loop-j in
-    let read = c.entry in
-    let looked-up = c.marked in
-    (omega arith, any-turn (marked _) (entry args.s.now args.at) _ loop.invariant.1 (rw read.ensures at looked-up.ensures) c.or-found.ensures)
+loop-j-preserved c = any-turn (marked _) (entry c.args.s.now c.args.at) _ c.loop-j.invariant (rw c.entry.ensures at c.marked-found.ensures) refl
 
 pub returns : goal.returns
 unfolding entries
 returns c =
-    let args = c.args in
-    let pair-at = c.pair_at-n in
-    let loop = c.loop-j in
-    let e : loop.j ≡ pair-at.result = omega arith in
-    loop.invariant.1
-    ∙ ap (λ (n : ℕ). any_of (marked args.table.now) (over n (λ k. entry args.s.now args.at k ∷ [])))
-    (e ∙ pair-at.ensures)
+    let e : c.loop-j.j ≡ c.pair_at-n.result = omega arith in
+    c.loop-j.invariant ∙ ap (λ (n : ℕ). any_of (marked c.args.table.now) (over n (λ k. entry c.args.s.now c.args.at k ∷ []))) (e ∙ c.pair_at-n.ensures)

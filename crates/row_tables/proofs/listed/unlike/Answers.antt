@@ -14,32 +14,32 @@ unfolding word_of
 loop-k-init c =
     let n = c.args.n in
     let none : n - n ≡ 0 = omega arith in
-    (omega arith, c.requires.few, rw none)
+    (c.requires.few, rw none)
 
 pub said-x-requires : goal.said-x-requires
 said-x-requires c =
     let loop = c.loop-k in
-    c.requires.entries (loop.k - 1) (omega (arith, loop.invariant.0, c.loop-k-test.true))
+    c.requires.entries (loop.k - 1) (omega arith)
 
 pub overflow_mul-word : goal.overflow_mul-word
 overflow_mul-word c =
     let loop = c.loop-k in
-    omega (arith, short _ _ loop.k _ c.loop-k-test.true loop.invariant.0 loop.invariant.1 loop.invariant.2)
+    omega (arith, short _ _ loop.k _ c.loop-k-test.true (omega arith) loop.invariant.0 loop.invariant.1)
 
 pub overflow_add-word : goal.overflow_add-word
 overflow_add-word c =
     let loop = c.loop-k in
     let args = c.args in
     let few = bit_le (not (eqb c.said-x.result args.plain)) in
-    omega (arith, c.bit.ensures, few, short _ _ loop.k _ c.loop-k-test.true loop.invariant.0 loop.invariant.1 loop.invariant.2)
+    omega (arith, c.mark.ensures, few, short _ _ loop.k _ c.loop-k-test.true (omega arith) loop.invariant.0 loop.invariant.1)
 
 pub loop-k-preserved : goal.loop-k-preserved
 loop-k-preserved c =
     let args = c.args in
     let loop = c.loop-k in
     let p = unlike_at args.s.now args.table.now args.at args.plain in
-    let down = word-down p loop.k args.n c.loop-k-test.true loop.invariant.0 in
-    (omega (arith, loop.invariant.0), loop.invariant.1, rw (c.bit.ensures, c.said-x.ensures, loop.invariant.2) down)
+    let down = word-down p loop.k args.n c.loop-k-test.true (omega arith) in
+    (loop.invariant.0, rw (c.mark.ensures, c.said-x.ensures, loop.invariant.1) down)
 
 pub returns : goal.returns
 returns c =
@@ -47,4 +47,4 @@ returns c =
     let n = c.args.n in
     let k : loop.k ≡ 0 = omega (arith, c.loop-k-test.false) in
     let all : n - 0 ≡ n = omega arith in
-    rw (k, all) at loop.invariant.2
+    rw (k, all) at loop.invariant.1

@@ -15,7 +15,4 @@ pub short : (p : ℕ → Bool) (n k word : ℕ) → 0 < k → k ≤ n → n ≤ 
 short p n k word l h f e = omega (arith, e, word_lt p k (n - k), pow_mono {i = n - k} {j = 63} (omega arith))
 
 abbrev pub invariant-loop-k : goal.invariant-loop-k
-invariant-loop-k l = (l.k ≤ l.n) × (l.n ≤ 64) × (l.word ≡ word_of (unlike_at l.s l.table l.at l.plain) l.k (l.n - l.k))
-
-abbrev pub decreases-loop-k : goal.decreases-loop-k
-decreases-loop-k l = l.k
+invariant-loop-k l = (l.n ≤ 64) × (l.word ≡ word_of (unlike_at l.s l.table l.at l.plain) l.k (l.n - l.k))

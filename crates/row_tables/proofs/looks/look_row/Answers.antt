@@ -1,39 +1,33 @@
--- `row_tables::looks::look_row` meets its contract: a name, a row that is looked through, any other.
+-- `row_tables::looks::look_row` meets its contract: a name, a row that is looked through, any other, and a number that is no kind's.
 -- Assumes nothing.
-use mathlib.Core.Path.{refl, sym, ap, ◌∙◌}
-use borrow.Author.Tests.{eq-eqb, ne_eqb}
+use Rattle.std.proofs.Common.{sym, ap, ◌∙◌}
+use Rattle.rules.specs.Base.{if'◌then◌else◌}
+use Rattle.rules.specs.View.{is}
+use Rattle.laws.specs.Kinds.{is_through}
 use Rattle.laws.specs.RowSteps.{look_step}
 use Rattle.row_tables.specs.Tables.{look_of}
 use Rattle.row_tables.proofs.Branches.{if-taken, if-left}
+use Rattle.row_tables.proofs.RowKinds.{kind-of, no-through, no-improper}
 use Rattle.row_tables.proofs.looks.look_row.Goals as goal
 
-pub returns-then-k-eq-IDENT : goal.returns-then-k-eq-IDENT
-unfolding look_step
-returns-then-k-eq-IDENT c =
-    let args = c.args in
-    let kind = c.kind-k in
-    let if1 = c.if-k-eq-IDENT in
-    let row-name = c.row_name in
-    if-taken _ _ (eq-eqb _ _ (sym kind.ensures ∙ if1.true)) (rw row-name.ensures at (c.look_name.ensures args.s.now)) refl
+pub returns-then-is : goal.returns-then-is
+unfolding look_step is
+returns-then-is c = if-taken _ _ c.if-is.true (rw c.row_name.ensures at (c.look_name.ensures c.args.s.now)) c.is.ensures
 
-pub returns-then-is_through : goal.returns-then-is_through
-unfolding look_step
-returns-then-is_through c =
-    let kind = c.kind-k in
-    let if1 = c.if-k-eq-IDENT in
-    let is-through = c.is_through in
-    let if2 = c.if-is_through in
-    let inner = c.inner in
-    if-left _ _ (ne_eqb _ _ (λ q. if1.false (kind.ensures ∙ q)))
-    (if-taken _ _ if2.true (ap look_of (rw inner.ensures at c.look_at.ensures)) (rw kind.ensures at is-through.ensures)) refl
+pub returns-in-Some : goal.returns-in-Some
+unfolding look_step is
+returns-in-Some c =
+    let n = kind-of c.kind.ensures c.in-Some.is in
+    if-left _ _ c.if-is.false
+    (if-taken _ _ c.if-is_through.true (ap look_of (rw c.inner.ensures at c.entry_or.ensures)) (c.is_through.ensures ∙ ap is_through (sym n))) c.is.ensures
 
-pub returns : goal.returns
-unfolding look_step
-returns c =
-    let kind = c.kind-k in
-    let if1 = c.if-k-eq-IDENT in
-    let is-through = c.is_through in
-    let if2 = c.if-is_through in
-    let is-improper = c.is_improper in
-    if-left _ _ (ne_eqb _ _ (λ q. if1.false (kind.ensures ∙ q)))
-    (if-left _ _ if2.false (rw (is-improper.ensures, kind.ensures) at c.definite.ensures) (rw kind.ensures at is-through.ensures)) refl
+pub returns-in-Some-2 : goal.returns-in-Some-2
+unfolding look_step is
+returns-in-Some-2 c =
+    let n = kind-of c.kind.ensures c.in-Some.is in
+    if-left _ _ c.if-is.false
+    (if-left _ _ c.if-is_through.false (rw (c.is_improper.ensures, ← n) at c.definite.ensures) (c.is_through.ensures ∙ ap is_through (sym n))) c.is.ensures
+
+pub returns-in-None : goal.returns-in-None
+unfolding look_step is if'◌then◌else◌
+returns-in-None c = rw (sym c.is.ensures ∙ c.if-is.false, no-through _ c.kind.ensures c.in-None.is, no-improper _ c.kind.ensures c.in-None.is)

@@ -1,15 +1,9 @@
--- `row_tables::marks::marked` meets its contract: it reads the table where there is an entry.
+-- `row_tables::marks::marked` meets its contract: what has no entry is not marked.
 -- Assumes nothing.
-use Rattle.laws.proofs.Rows.RowTable.{read-in, read_out}
+use Rattle.std.proofs.Common.{ap, ◌∙◌}
+use Rattle.laws.specs.RowTable.{is_mark}
+use Rattle.row_tables.proofs.Made.{read-or}
 use Rattle.row_tables.proofs.marks.marked.Goals as goal
 
-pub returns-then-at-lt-ROWS : goal.returns-then-at-lt-ROWS
-returns-then-at-lt-ROWS c =
-    let args = c.args in
-    let if1 = c.if-at-lt-ROWS in
-    rw (read-in args.table.now args.r if1.true)
-
 pub returns : goal.returns
-returns c =
-    let args = c.args in
-    rw (read_out args.table.now args.r c.if-at-lt-ROWS.false)
+returns c = ap is_mark (c.entry_or.ensures ∙ read-or c.args.table.now c.args.r)

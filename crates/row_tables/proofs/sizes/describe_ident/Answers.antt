@@ -1,33 +1,89 @@
--- `row_tables::sizes::describe_ident` meets its contract: what its calls ensure, put together.
+-- `row_tables::sizes::describe_ident` meets its contract: the tests are made in the definition's order.
 -- Assumes nothing.
+use Rattle.std.proofs.Common.{sym, ◌∙◌}
+use borrow.Author.Tests.{eq-eqb, ne_eqb}
+use Rattle.rules.specs.Base.{if'◌then◌else◌}
 use Rattle.rules.specs.Check.{describe_ident}
 use Rattle.row_tables.proofs.sizes.describe_ident.Goals as goal
 
-pub returns : goal.returns
-unfolding describe_ident
-returns c =
-    let pick = c.pick-d in
-    let pick2 = c.pick-d-2 in
-    let is-rust = c.is_rust in
-    let pick3 = c.pick-d-3 in
-    let is-cxx = c.is_cxx in
-    let pick4 = c.pick-d-4 in
-    let is-alias = c.is_alias in
-    let pick5 = c.pick-d-5 in
-    let is-enum = c.is_enum in
-    let pick6 = c.pick-d-6 in
-    let is_struct = c.is_struct in
+pub returns-then-is_struct : goal.returns-then-is_struct
+unfolding describe_ident if'◌then◌else◌
+returns-then-is_struct c = λ s. rw (sym (c.is_struct.ensures s) ∙ c.if-is_struct.true)
+
+pub returns-then-is_enum : goal.returns-then-is_enum
+unfolding describe_ident if'◌then◌else◌
+returns-then-is_enum c = λ s. rw (sym (c.is_struct.ensures s) ∙ c.if-is_struct.false, sym (c.is_enum.ensures s) ∙ c.if-is_enum.true)
+
+pub returns-then-is_alias : goal.returns-then-is_alias
+unfolding describe_ident if'◌then◌else◌
+returns-then-is_alias c =
     λ s.
     rw (
-      is_struct.ensures s,
-      pick6.ensures,
-      is-enum.ensures s,
-      pick5.ensures,
-      is-alias.ensures s,
-      pick4.ensures,
-      is-cxx.ensures s,
-      pick3.ensures,
-      is-rust.ensures s,
-      pick2.ensures,
-      pick.ensures,
-    ) at c.pick.ensures
+      sym (c.is_struct.ensures s) ∙ c.if-is_struct.false,
+      sym (c.is_enum.ensures s) ∙ c.if-is_enum.false,
+      sym (c.is_alias.ensures s) ∙ c.if-is_alias.true,
+    )
+
+pub returns-then-is_cxx : goal.returns-then-is_cxx
+unfolding describe_ident if'◌then◌else◌
+returns-then-is_cxx c =
+    λ s.
+    rw (
+      sym (c.is_struct.ensures s) ∙ c.if-is_struct.false,
+      sym (c.is_enum.ensures s) ∙ c.if-is_enum.false,
+      sym (c.is_alias.ensures s) ∙ c.if-is_alias.false,
+      sym (c.is_cxx.ensures s) ∙ c.if-is_cxx.true,
+    )
+
+pub returns-then-is_rust : goal.returns-then-is_rust
+unfolding describe_ident if'◌then◌else◌
+returns-then-is_rust c =
+    λ s.
+    rw (
+      sym (c.is_struct.ensures s) ∙ c.if-is_struct.false,
+      sym (c.is_enum.ensures s) ∙ c.if-is_enum.false,
+      sym (c.is_alias.ensures s) ∙ c.if-is_alias.false,
+      sym (c.is_cxx.ensures s) ∙ c.if-is_cxx.false,
+      sym (c.is_rust.ensures s) ∙ c.if-is_rust.true,
+    )
+
+pub returns-then-n-eq-CXX_STRING : goal.returns-then-n-eq-CXX_STRING
+unfolding describe_ident if'◌then◌else◌
+returns-then-n-eq-CXX_STRING c =
+    λ s.
+    rw (
+      sym (c.is_struct.ensures s) ∙ c.if-is_struct.false,
+      sym (c.is_enum.ensures s) ∙ c.if-is_enum.false,
+      sym (c.is_alias.ensures s) ∙ c.if-is_alias.false,
+      sym (c.is_cxx.ensures s) ∙ c.if-is_cxx.false,
+      sym (c.is_rust.ensures s) ∙ c.if-is_rust.false,
+      eq-eqb _ _ c.if-n-eq-CXX_STRING.true,
+    )
+
+pub returns-then-n-eq-CHAR : goal.returns-then-n-eq-CHAR
+unfolding describe_ident if'◌then◌else◌
+returns-then-n-eq-CHAR c =
+    λ s.
+    rw (
+      sym (c.is_struct.ensures s) ∙ c.if-is_struct.false,
+      sym (c.is_enum.ensures s) ∙ c.if-is_enum.false,
+      sym (c.is_alias.ensures s) ∙ c.if-is_alias.false,
+      sym (c.is_cxx.ensures s) ∙ c.if-is_cxx.false,
+      sym (c.is_rust.ensures s) ∙ c.if-is_rust.false,
+      ne_eqb _ _ c.if-n-eq-CXX_STRING.false,
+      eq-eqb _ _ c.if-n-eq-CHAR.true,
+    )
+
+pub returns-else-n-eq-CHAR : goal.returns-else-n-eq-CHAR
+unfolding describe_ident if'◌then◌else◌
+returns-else-n-eq-CHAR c =
+    λ s.
+    rw (
+      sym (c.is_struct.ensures s) ∙ c.if-is_struct.false,
+      sym (c.is_enum.ensures s) ∙ c.if-is_enum.false,
+      sym (c.is_alias.ensures s) ∙ c.if-is_alias.false,
+      sym (c.is_cxx.ensures s) ∙ c.if-is_cxx.false,
+      sym (c.is_rust.ensures s) ∙ c.if-is_rust.false,
+      ne_eqb _ _ c.if-n-eq-CXX_STRING.false,
+      ne_eqb _ _ c.if-n-eq-CHAR.false,
+    )

@@ -6,20 +6,8 @@ use Rattle.row_tables.proofs.sizes.is_unsized_leaf.Goals as goal
 
 pub returns-then-is : goal.returns-then-is
 unfolding unsized_leaf
-returns-then-is c =
-    let args = c.args in
-    let is = c.is in
-    let if1 = c.if-is in
-    let row-name = c.row_name in
-    if-taken _ _ if1.true (rw row-name.ensures at (c.is_unsized_ident.ensures args.s.now)) is.ensures
+returns-then-is c = if-taken _ _ c.if-is.true (rw c.row_name.ensures at (c.is_unsized_ident.ensures c.args.s.now)) c.is.ensures
 
 pub returns : goal.returns
 unfolding unsized_leaf
-returns c =
-    let is = c.is in
-    let if1 = c.if-is in
-    let is2 = c.is-2 in
-    let is3 = c.is-3 in
-    let or = c.or in
-    let is4 = c.is-4 in
-    if-left _ _ if1.false (rw (or.ensures, is2.ensures, is3.ensures, is4.ensures) at c.or-2.ensures) is.ensures
+returns c = if-left _ _ c.if-is.false (rw (c.is-2.ensures, c.is-3.ensures, c.is-4.ensures)) c.is.ensures

@@ -21,7 +21,7 @@ returns-then-r-few_rows c =
     let args = c.args in
     let few-rows = c.few_rows in
     let if1 = c.if-r-few_rows in
-    pre.entries args.r (rw few-rows.ensures at if1.true)
+    pre.entries _ args.r (rw few-rows.ensures at if1.true)
 
 pub returns : goal.returns
 returns c = c.want.ensures

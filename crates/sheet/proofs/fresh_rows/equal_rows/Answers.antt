@@ -3,8 +3,8 @@
 use Rattle.sheet.proofs.FreshLaws.{rows_alike, rows-unlike}
 use Rattle.sheet.proofs.fresh_rows.equal_rows.Goals as goal
 
-pub returns-then-n-minus : goal.returns-then-n-minus
-returns-then-n-minus c = search rows_alike
+pub returns-then-n-saturating_sub : goal.returns-then-n-saturating_sub
+returns-then-n-saturating_sub c = search rows_alike
 
-pub returns-else-n-minus : goal.returns-else-n-minus
-returns-else-n-minus c = search rows-unlike
+pub returns-else-n-saturating_sub : goal.returns-else-n-saturating_sub
+returns-else-n-saturating_sub c = search rows-unlike

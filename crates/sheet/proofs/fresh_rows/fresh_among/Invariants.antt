@@ -1,12 +1,10 @@
--- `fresh_among` compares the rows whose keys agree. The invariant: the rows below i decide; a row with another key is no equal row. The measure is i.
+-- `fresh_among` compares the rows whose keys agree. The invariant: no row below i equals row r; a row with another key does not.
 -- Assumes nothing.
-use Prim.Native.Nat.{◌≤◌}
+use Prim.Native.Nat.{ℕ, ◌<◌}
 use mathlib.Core.Path.{◌≡◌}
-use Rattle.rules.specs.Format.{fresh}
+use mathlib.Core.Bool.{false}
+use Rattle.rules.specs.Format.{equal_rows}
 use Rattle.sheet.proofs.fresh_rows.fresh_among.Given as goal
 
 abbrev pub invariant-loop-i : goal.invariant-loop-i
-invariant-loop-i l = (fresh l.s l.r l.r l.next ≡ fresh l.s l.i l.r l.next) × (l.i ≤ l.r)
-
-abbrev pub decreases-loop-i : goal.decreases-loop-i
-decreases-loop-i l = l.i
+invariant-loop-i l = (j : ℕ) → j < l.i → equal_rows l.s j l.r l.next ≡ false

@@ -1,12 +1,18 @@
 use native.Mathlib.Omega.{arith}
-use Rattle.sheet.proofs.FreshLaws.{key-go, key-end}
+use Rattle.sheet.proofs.FreshLaws.{key-start, key-more, key-end}
 use Rattle.sheet.proofs.fresh_rows.keys_of.Goals as goal
 
-pub loop-left-init : goal.loop-left-init
-loop-left-init c = (rw c.minus-left.ensures, rw c.minus-left.ensures, c.minus-left.ensures)
+pub loop-j-init : goal.loop-j-init
+loop-j-init c = (key-start _ _ _ _, key-start _ _ _ _)
 
-pub loop-left-preserved : goal.loop-left-preserved
-loop-left-preserved c = (search key-go, search key-go, omega arith)
+pub loop-j-preserved : goal.loop-j-preserved
+loop-j-preserved c =
+    let both = c.loop-j.invariant in (
+      key-more _ _ _ _ _ both.0 (omega arith) c.pair_at-p.ensures c.mix.ensures,
+      key-more _ _ _ _ _ both.1 (omega arith) c.pair_at-p.ensures c.mix-in-loop-j.ensures,
+    )
 
 pub returns : goal.returns
-returns c = record { low = search key-end; high = search key-end }
+returns c =
+    let both = c.loop-j.invariant in
+    record { low = key-end _ _ _ _ _ both.0 (omega arith); high = key-end _ _ _ _ _ both.1 (omega arith) }

@@ -1,18 +1,16 @@
-use mathlib.Core.Path.{refl}
+-- `same_bytes` compares n bytes, each by its place in both runs.
+-- Assumes nothing.
+use borrow.Author.Rules.{rules}
+use borrow.Author.Tests.{tests}
+use mathlib.Core.Path.{◌∙◌}
 use native.Mathlib.Omega.{arith}
-use Rattle.sheet.proofs.FreshLaws.{bytes-differ, bytes-agree, bytes-end}
+use Rattle.std.proofs.lemmas.Iterator.{YieldsList-from_range}
+use Rattle.std.proofs.lemmas.Iterator.Search.{all_from_yields_List}
+use Rattle.sheet.proofs.FreshLaws.{alike, alike-all}
 use Rattle.sheet.proofs.fresh_rows.same_bytes.Goals as goal
 
-pub loop-left-init : goal.loop-left-init
-loop-left-init c = (refl, refl, refl)
-
-pub returns-then-byte_at : goal.returns-then-byte_at
-returns-then-byte_at c = search bytes-differ
-
-pub loop-left-preserved : goal.loop-left-preserved
-loop-left-preserved c =
-    let agree = bytes-agree _ _ _ _ _ c.loop-left.invariant.0 c.loop-left-test.true in
-    (agree c.byte_at.ensures c.byte_at-in-loop-left.ensures c.if-byte_at.false, omega arith, omega arith)
-
 pub returns : goal.returns
-returns c = search bytes-end
+returns c =
+    all_from_yields_List (alike c.args.s.now c.args.a c.args.b) _ _ _ c.all.ensures.ran (YieldsList-from_range 0 c.args.n c.args.n (cc) (omega arith))
+    (λ x b q k. search (rules, tests))
+    ∙ alike-all _ _ _ _

@@ -5,4 +5,4 @@ use Rattle.sheet.proofs.functions.args_place.Goals as goal
 
 pub returns : goal.returns
 unfolding return_place receiver_place form past
-returns c = rw (c.pair_at-2.ensures, c.pair_at.ensures, c.item_place.ensures)
+returns c = rw (c.behind.ensures.place, c.behind-receiver.ensures.place, c.item_place.ensures)

@@ -1,16 +1,20 @@
-use borrow.Author.Rules.{rules}
+-- Assumes nothing.
+use Rattle.std.proofs.Common.{rules, sym, ◌∙◌}
 use native.Mathlib.Nat.{sub-zero}
+use Rattle.std.proofs.lemmas.Result.{err_from_is_err_and}
 use Rattle.sheet.proofs.StepLaws.{each-stop, each-go, each-end}
 use Rattle.sheet.proofs.item_steps.all_items.Goals as goal
 
 pub loop-i-init : goal.loop-i-init
 loop-i-init c = (rw sub-zero, search rules)
 
-pub returns-in_default : goal.returns-in_default
-returns-in_default c = search each-stop
+pub returns-in_err-here : goal.returns-in_err-here
+returns-in_err-here c =
+    let p = err_from_is_err_and c.from_residual.result c.from_residual.ensures.1 in
+    rw (p.1, p.2) (sym c.in_err-here.was ∙ each-stop _ _ _ _ _ c.loop-i.invariant.0 c.loop-i-test.true c.item_at.ensures c.in_err-here.was)
 
 pub loop-i-preserved : goal.loop-i-preserved
-loop-i-preserved c = (search each-go, search rules)
+loop-i-preserved c = (each-go _ _ _ _ _ c.loop-i.invariant.0 c.loop-i-test.true c.item_at.ensures c.in_ok-here.was, search rules)
 
 pub returns : goal.returns
 returns c = search each-end

@@ -1,4 +1,4 @@
--- `all_items` reads items one after the other. The invariant: what is left of the step is the items from i on, from here on. The measure is how many are left.
+-- `all_items` reads items one after the other. The invariant: what is left of the step is the items from i on, from here on.
 -- Assumes nothing.
 use Prim.Native.Nat.{◌-◌, ◌≤◌}
 use mathlib.Core.Path.{◌≡◌}
@@ -7,6 +7,3 @@ use Rattle.sheet.proofs.item_steps.all_items.Given as goal
 
 abbrev pub invariant-loop-i : goal.invariant-loop-i
 invariant-loop-i l = (each (item_at l.s l.t) l.n 0 l.at ≡ each (item_at l.s l.t) (l.n - l.i) l.i l.here) × (l.i ≤ l.n)
-
-abbrev pub decreases-loop-i : goal.decreases-loop-i
-decreases-loop-i l = l.n - l.i

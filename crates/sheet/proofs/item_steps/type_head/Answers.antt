@@ -1,8 +1,22 @@
 -- `type_head` is the step of that name: a name and two lists.
 -- Assumes nothing.
+use Rattle.std.proofs.Common.{refl}
+use Rattle.std.proofs.lemmas.Result.{err_from_is_err_and}
 use Rattle.rules.specs.Format.{type_head}
 use Rattle.sheet.proofs.item_steps.type_head.Goals as goal
 
+pub returns-in_err-at : goal.returns-in_err-at
+unfolding type_head
+returns-in_err-at c =
+    let p = err_from_is_err_and c.from_residual.result c.from_residual.ensures.1 in
+    rw (p.1, p.2, ← c.limited.ensures, c.in_err-at.was) refl
+
+pub returns-in_err-at-2 : goal.returns-in_err-at-2
+unfolding type_head
+returns-in_err-at-2 c =
+    let p = err_from_is_err_and c.from_residual-in_err-at-2.result c.from_residual-in_err-at-2.ensures.1 in
+    rw (p.1, p.2, ← c.limited.ensures, c.in_ok-at.was, ← c.list.ensures, c.in_err-at-2.was) refl
+
 pub returns : goal.returns
 unfolding type_head
-returns c = cc
+returns c = rw (← c.limited.ensures, c.in_ok-at.was, ← c.list.ensures, c.in_ok-at-2.was) c.list-2.ensures

@@ -5,4 +5,4 @@ use Rattle.sheet.proofs.items.item_is.Goals as goal
 
 pub returns : goal.returns
 unfolding item_is
-returns c = rw c.item_kind.ensures
+returns c = rw (c.item_kind_number.ensures, c.number.ensures)

@@ -1,6 +1,7 @@
 use borrow.Author.Rules.{rules}
 use Prim.Native.Nat.{ℕ}
-use mathlib.Core.Path.{refl}
+use mathlib.Core.Path.{refl, sym, ◌∙◌}
+use Rattle.std.proofs.lemmas.Result.{err_from_is_err_and}
 use native.Mathlib.Nat.{sub-zero}
 use native.Mathlib.Omega.{arith}
 use lib.ListN.{length-replicate, length-set}
@@ -18,28 +19,32 @@ loop-r-init c = record {
   seen-long = length-replicate {A = ℕ} 16384 0;
 }
 
-pub returns-in_default : goal.returns-in_default
-returns-in_default c = search (each-stop, row-refused)
+pub returns-in_err-next : goal.returns-in_err-next
+returns-in_err-next c =
+    let p = err_from_is_err_and c.from_residual.result c.from_residual.ensures.1 in
+    let refused = row-refused _ _ _ c.placed.ensures c.in_err-next.was in
+    rw (p.1, p.2) (sym c.in_err-next.was ∙ each-stop _ _ _ _ _ c.loop-r.invariant.left c.loop-r-test.true refused c.in_err-next.was)
 
 pub fresh-requires : goal.fresh-requires
 fresh-requires c =
     let turn = c.loop-r in
-    let here = placed-here _ _ _ c.placed-step.ensures c.in-Next.is in
+    let here = placed-here _ _ _ c.placed.ensures c.in_ok-next.was in
     let keys = c.keys_of-two.ensures in
     record { sought = sought _ _ _ turn.seen _ _ _ _ _ turn.invariant.kept here keys.low keys.high (omega arith); kept = turn.invariant.kept here }
 
-pub returns-else-fresh : goal.returns-else-fresh
-returns-else-fresh c =
-    let seen = row_seen _ _ _ c.placed-step.ensures c.in-Next.is c.fresh.ensures c.if-fresh.false in
-    each-stop _ _ _ _ _ c.loop-r.invariant.left c.loop-r-test.true seen refl
+pub returns-then-not-fresh : goal.returns-then-not-fresh
+returns-then-not-fresh c =
+    let seen = row_seen _ _ _ c.placed.ensures c.in_ok-next.was c.fresh.ensures c.if-not-fresh.true in
+    c.refusal.ensures ∙ each-stop _ _ _ _ _ c.loop-r.invariant.left c.loop-r-test.true seen refl
 
 pub loop-r-preserved : goal.loop-r-preserved
 loop-r-preserved c =
     let turn = c.loop-r in
-    let here = placed-here _ _ _ c.placed-step.ensures c.in-Next.is in
+    let here = placed-here _ _ _ c.placed.ensures c.in_ok-next.was in
     let keys = c.keys_of-two.ensures in
     record {
-      left = search (each-go, row_new);
+      left = each-go _ _ _ _ _ turn.invariant.left c.loop-r-test.true (row_new _ _ _ c.placed.ensures c.in_ok-next.was c.fresh.ensures
+          c.if-not-fresh.false) c.in_ok-next.was;
       within = search rules;
       kept = kept_again _ _ _ _ _ _ _ _ _ turn.invariant.kept here keys.low keys.high (omega arith) (omega arith) turn.invariant.seen-long;
       keys-long = simp length-set turn.invariant.keys-long;

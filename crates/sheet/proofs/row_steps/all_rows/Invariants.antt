@@ -1,5 +1,5 @@
 -- `all_rows` reads rows one after the other. The invariant: what is left of the step is the rows from r on, from here on, and, if row r stands here, the
--- keys and marks of the rows before it are kept. The measure is how many rows are left.
+-- keys and marks of the rows before it are kept.
 -- Assumes nothing.
 use Prim.Native.Nat.{ℕ, ◌-◌, ◌≤◌}
 use mathlib.Core.Path.{◌≡◌}
@@ -19,6 +19,3 @@ pub record Reading (s : List ℕ) (n at : ℕ) (keys more seen : List ℕ) (here
 
 abbrev pub invariant-loop-r : goal.invariant-loop-r
 invariant-loop-r l = Reading l.s l.n l.at l.keys l.more l.seen l.here l.r
-
-abbrev pub decreases-loop-r : goal.decreases-loop-r
-decreases-loop-r l = l.n - l.r

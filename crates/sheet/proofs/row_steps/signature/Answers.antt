@@ -1,8 +1,22 @@
 -- `signature` is the step of that name: flags, a row or none, and a list.
 -- Assumes nothing.
+use Rattle.std.proofs.Common.{refl}
+use Rattle.std.proofs.lemmas.Result.{err_from_is_err_and}
 use Rattle.rules.specs.Format.{signature}
 use Rattle.sheet.proofs.row_steps.signature.Goals as goal
 
+pub returns-in_err-at : goal.returns-in_err-at
+unfolding signature
+returns-in_err-at c =
+    let p = err_from_is_err_and c.from_residual.result c.from_residual.ensures.1 in
+    rw (p.1, p.2, ← c.limited.ensures, c.in_err-at.was) refl
+
+pub returns-in_err-at-2 : goal.returns-in_err-at-2
+unfolding signature
+returns-in_err-at-2 c =
+    let p = err_from_is_err_and c.from_residual-in_err-at-2.result c.from_residual-in_err-at-2.ensures.1 in
+    rw (p.1, p.2, ← c.limited.ensures, c.in_ok-at.was, ← c.or_none.ensures, c.in_err-at-2.was) refl
+
 pub returns : goal.returns
 unfolding signature
-returns c = cc
+returns c = rw (← c.limited.ensures, c.in_ok-at.was, ← c.or_none.ensures, c.in_ok-at-2.was) c.list.ensures

@@ -5,4 +5,4 @@ use Rattle.sheet.proofs.rows.is.Goals as goal
 
 pub returns : goal.returns
 unfolding is
-returns c = rw c.kind.ensures
+returns c = rw (c.kind_number.ensures, c.number.ensures)

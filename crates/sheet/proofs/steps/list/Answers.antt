@@ -1,21 +1,29 @@
+-- Assumes nothing.
+use Rattle.std.proofs.Common.{rules, refl, sym, ◌∙◌}
+use native.Mathlib.Nat.{sub-zero}
+use Rattle.std.proofs.lemmas.Result.{err_from_is_err_and}
 use Rattle.rules.specs.Format.{list}
-use mathlib.Core.Path.{sym}
-use Rattle.sheet.proofs.StepLaws.{stop, go, times-stop, times-go, times-end}
+use Rattle.sheet.proofs.StepLaws.{times-stop, times-go, times-end}
 use Rattle.sheet.proofs.steps.list.Goals as goal
 
-pub returns-in_default : goal.returns-in_default
+pub returns-in_err-here : goal.returns-in_err-here
 unfolding list
-returns-in_default c = search stop
+returns-in_err-here c =
+    let p = err_from_is_err_and c.from_residual.result c.from_residual.ensures.1 in
+    rw (p.1, p.2, ← c.limited.ensures, c.in_err-here.was) refl
 
-pub loop-left-init : goal.loop-left-init
+pub loop-init : goal.loop-init
 unfolding list
-loop-left-init c = sym (go _ c.limited-first.ensures c.in-Next.is (rw c.pair_at-left.ensures))
+loop-init c = (rw (← c.limited.ensures, c.in_ok-here.was, ← c.pair_at-count.ensures, sub-zero) refl, search rules)
 
-pub returns-in_default-step : goal.returns-in_default-step
-returns-in_default-step c = search times-stop
+pub returns-in_err-here-2 : goal.returns-in_err-here-2
+returns-in_err-here-2 c =
+    let p = err_from_is_err_and c.from_residual-in_err-here-2.result c.from_residual-in_err-here-2.ensures.1 in
+    rw (p.1, p.2)
+    (sym c.in_err-here-2.was ∙ times-stop _ _ _ _ _ _ c.loop.invariant.0 c.loop-test.true c.limited-in-loop.ensures c.in_err-here-2.was)
 
-pub loop-left-preserved : goal.loop-left-preserved
-loop-left-preserved c = search times-go
+pub loop-preserved : goal.loop-preserved
+loop-preserved c = (times-go _ _ _ _ _ _ c.loop.invariant.0 c.loop-test.true c.limited-in-loop.ensures c.in_ok-here-2.was, search rules)
 
 pub returns : goal.returns
-returns c = search times-end
+returns c = times-end _ _ _ _ _ _ c.loop.invariant.0 c.loop-test.false

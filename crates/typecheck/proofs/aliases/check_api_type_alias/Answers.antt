@@ -8,4 +8,4 @@ pub returns : goal.returns
 unfolding check_api_type_alias all_derived derived
 returns c =
     λ t.
-    also (c.check_lifetimes-cx.ensures t) c.check_derives.ensures
+    also (c.check_lifetimes.ensures t) c.check_derives.ensures

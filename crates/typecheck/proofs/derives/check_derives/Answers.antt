@@ -1,4 +1,5 @@
-use mathlib.Core.Path.{◌≡◌, refl, ◌∙◌}
+-- `typecheck::derives::check_derives` meets its contract: a turn adds the messages of its derive, and at the end the index is the count. Assumes nothing.
+use mathlib.Core.Path.{◌≡◌, ◌∙◌}
 use native.Mathlib.Omega.{arith}
 use Rattle.rules.specs.View.{derive_count, derive}
 use Rattle.errors.specs.Sink.{start, turn, whole}
@@ -6,25 +7,14 @@ use Rattle.typecheck.specs.Derives.{all_derived}
 use Rattle.typecheck.proofs.derives.check_derives.Goals as goal
 
 pub loop-j-init : goal.loop-j-init
-loop-j-init c = (refl, omega arith, start _ _ _)
-
-pub overflow_add-j : goal.overflow_add-j
-overflow_add-j c = omega arith
-
-pub loop-j-smaller : goal.loop-j-smaller
-loop-j-smaller c = omega arith
+loop-j-init c = start _ _
 
 pub loop-j-preserved : goal.loop-j-preserved
 unfolding derive
-loop-j-preserved c = (
-  c.check_derive-e.auto.out ∙ c.loop-j.invariant.0,
-  omega arith,
-  turn _ _ c.loop-j.invariant.2 (rw (rw c.derives_place-at.ensures at c.entry.ensures) at c.check_derive-e.ensures),
-)
-
-pub shape_of-out : goal.shape_of-out
-shape_of-out c = c.loop-j.invariant.0
+loop-j-preserved c = turn _ _ c.loop-j.invariant (rw (rw c.derives_place-at.ensures at c.entry.ensures) at c.check_derive.ensures)
 
 pub returns : goal.returns
 unfolding all_derived derive_count
-returns c = let e : c.loop-j.j ≡ c.pair_at-n.result = omega arith in whole _ c.loop-j.invariant.2 (e ∙ (rw c.derives_place-at.ensures at c.pair_at-n.ensures))
+returns c =
+    let e : c.loop-j.j ≡ c.pair_at-j-end.result = omega arith in
+    whole _ c.loop-j.invariant (e ∙ rw c.derives_place-at.ensures at c.pair_at-j-end.ensures)

@@ -3,4 +3,4 @@ use Rattle.errors.specs.Sink.{also, meant-if}
 use Rattle.typecheck.proofs.derives.check_struct_derive.Goals as goal
 
 pub returns : goal.returns
-returns c = also (meant-if _ c.derive_error-cx.ensures c.is_bit-bits.ensures) c.derive_error.ensures
+returns c = also (meant-if _ c.error_if.ensures c.is_bit-bits.ensures) c.error_if-2.ensures

@@ -8,6 +8,6 @@ pub returns : goal.returns
 unfolding check_api_type check_opaque_derive all_derived derived
 returns c =
     also
-    (also-if _ (also (also (c.check_reserved_name-cx.ensures _) (c.check_lifetimes-cx.ensures _)) c.check_derives-cx.ensures) c.item_error-cx.ensures
+    (also-if _ (also (also (c.check_reserved_name.ensures _) (c.check_lifetimes.ensures _)) c.check_derives.ensures) c.error_if.ensures
     c.type_bounds-2.ensures)
     c.check_required_trivial.ensures

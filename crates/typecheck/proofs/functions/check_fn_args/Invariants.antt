@@ -1,7 +1,4 @@
 -- `typecheck::functions::check_fn_args` meets its contract: the arguments before j have given their messages. Assumes nothing.
-use Prim.Native.Nat.{◌≤◌, ◌-◌}
-use mathlib.Core.Path.{◌≡◌}
-use lib.ListN.{length}
 use Rattle.rules.specs.Base.{over}
 use Rattle.rules.specs.View.{arg}
 use Rattle.errors.specs.Sink.{Reported}
@@ -9,8 +6,4 @@ use Rattle.typecheck.specs.Tests.{function_of, function_arg}
 use Rattle.typecheck.proofs.functions.check_fn_args.Given as goal
 
 abbrev pub invariant-loop-j : goal.invariant-loop-j
-invariant-loop-j l = (length l.out ≡ length l.initial.out) × (l.j ≤ l.n) ×
-    Reported l.initial.out l.initial.e (over l.j (λ k. function_arg l.s l.faults (function_of l.s l.i) k (arg l.s l.i k))) l.e l.out
-
-abbrev pub decreases-loop-j : goal.decreases-loop-j
-decreases-loop-j l = l.n - l.j
+invariant-loop-j l = Reported l.initial.cx (over l.j (λ k. function_arg l.s l.faults (function_of l.s l.i) k (arg l.s l.i k))) l.cx

@@ -1,12 +1,18 @@
 -- `typecheck::functions::check_fn_mut_return` meets its contract: each test that the code makes is that of the definition. Assumes nothing.
+use mathlib.Core.Path.{◌≡◌, refl}
+use mathlib.Core.Bool.{true, false, not, ◌&&◌}
+use Rattle.std.proofs.Common.{rules}
+use Rattle.rules.specs.Numbers.{CxxFunction}
+use Rattle.rules.specs.View.{item_is, function_unwind}
 use Rattle.errors.specs.Sink.{silent, taken, left}
 use Rattle.typecheck.proofs.functions.check_fn_mut_return.Goals as goal
 
-pub check_mut_return_restriction-requires : goal.check_mut_return_restriction-requires
-check_mut_return_restriction-requires c = c.requires
-
-pub returns-then-and : goal.returns-then-and
-returns-then-and c = taken _ _ c.if-and.true c.check_mut_return_restriction.ensures (rw (c.item_is.ensures, c.function_unwind.ensures) at c.and.ensures)
+pub returns-then-not-function_unwind : goal.returns-then-not-function_unwind
+returns-then-not-function_unwind c =
+    let test : true ≡ (item_is c.args.s.now CxxFunction c.args.i && not (function_unwind c.args.s.now c.args.i)) = search rules in
+    taken _ _ refl c.check_mut_return_restriction.ensures test
 
 pub returns : goal.returns
-returns c = left _ _ c.if-and.false (silent _ _) (rw (c.item_is.ensures, c.function_unwind.ensures) at c.and.ensures)
+returns c =
+    let test : false ≡ (item_is c.args.s.now CxxFunction c.args.i && not (function_unwind c.args.s.now c.args.i)) = search rules in
+    left _ _ refl (silent _) test

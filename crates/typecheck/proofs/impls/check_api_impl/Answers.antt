@@ -7,4 +7,4 @@ pub returns : goal.returns
 unfolding check_api_impl
 returns c =
     λ t.
-    also (c.check_lifetimes-cx.ensures t) (c.check_impl_self.ensures t)
+    also (c.check_lifetimes.ensures t) (c.check_impl_self.ensures t)

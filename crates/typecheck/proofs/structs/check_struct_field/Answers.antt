@@ -1,20 +1,19 @@
 -- `typecheck::structs::check_struct_field` meets its contract: each test that the code makes is that of the definition. Assumes nothing.
-use mathlib.Core.Path.{refl}
-use borrow.Author.Tests.{eq-eqb, ne_eqb}
+use Rattle.std.proofs.Common.{rules}
+use Rattle.rules.specs.Base.{if'◌then◌else◌}
 use Rattle.rules.specs.Diagnostics.{when}
-use Rattle.errors.specs.Sink.{silent, taken, left}
+use Rattle.errors.specs.Sink.{silent}
 use Rattle.typecheck.specs.Tests.{by_fault}
 use Rattle.typecheck.proofs.structs.check_struct_field.Goals as goal
 
 pub returns-then-fault-eq0 : goal.returns-then-fault-eq0
-unfolding by_fault when
-returns-then-fault-eq0 c = taken _ _ (eq-eqb _ _ c.if-fault-eq0.true) (silent _ _) refl
+unfolding by_fault when if'◌then◌else◌
+returns-then-fault-eq0 c = let none = silent c.args.cx.now in search rules
 
 pub returns-then-fault-eq-FN_FAULT : goal.returns-then-fault-eq-FN_FAULT
-unfolding by_fault when
-returns-then-fault-eq-FN_FAULT c =
-    left _ _ (ne_eqb _ _ c.if-fault-eq0.false) (taken _ _ (eq-eqb _ _ c.if-fault-eq-FN_FAULT.true) c.field_error.ensures refl) refl
+unfolding by_fault when if'◌then◌else◌
+returns-then-fault-eq-FN_FAULT c = search rules
 
 pub returns : goal.returns
-unfolding by_fault when
-returns c = left _ _ (ne_eqb _ _ c.if-fault-eq0.false) (left _ _ (ne_eqb _ _ c.if-fault-eq-FN_FAULT.false) c.field_error-2.ensures refl) refl
+unfolding by_fault when if'◌then◌else◌
+returns c = search rules

@@ -1,27 +1,18 @@
-use mathlib.Core.Path.{◌≡◌, refl, ◌∙◌}
-use native.Mathlib.Omega.{arith}
-use Rattle.errors.specs.Sink.{meant-if, start, turn, whole}
+-- `typecheck_rows::rows::check_fn_args` meets its contract: a turn adds the message of its argument. Assumes nothing.
+use mathlib.Core.Path.{◌≡◌}
+use mathlib.Core.Bool.{not, ◌&&◌}
+use Rattle.std.proofs.Common.{rules}
+use Rattle.rules.specs.Numbers.{Ptr}
+use Rattle.rules.specs.View.{flag1, is, row_flags, fn_arg}
+use Rattle.errors.specs.Sink.{meant-if, start, turn}
 use Rattle.typecheck_rows.proofs.rows.check_fn_args.Goals as goal
 
 pub loop-j-init : goal.loop-j-init
-loop-j-init c = (refl, omega arith, start _ _ _)
-
-pub overflow_add-j : goal.overflow_add-j
-overflow_add-j c = omega arith
-
-pub loop-j-smaller : goal.loop-j-smaller
-loop-j-smaller c = omega arith
+loop-j-init c = start _ _
 
 pub loop-j-preserved : goal.loop-j-preserved
-loop-j-preserved c = (
-  c.fn_arg_error-e.auto.out ∙ c.loop-j.invariant.0,
-  omega arith,
-  turn _ _ c.loop-j.invariant.2 (meant-if _ c.fn_arg_error-e.ensures
-      (rw (c.is-pointer.ensures, c.fn_arg.ensures, c.flag1-safe.ensures, c.row_flags.ensures) at c.and.ensures)),
-)
-
-pub shape_of-out : goal.shape_of-out
-shape_of-out c = c.loop-j.invariant.0
-
-pub returns : goal.returns
-returns c = let e : c.loop-j.j ≡ c.fn_arg_count-n.result = omega arith in whole _ c.loop-j.invariant.2 (e ∙ c.fn_arg_count-n.ensures)
+loop-j-preserved c =
+    let s = c.args.s.now in
+    let r = c.args.r in
+    let test : c.if-pointer.error_if ≡ (is s Ptr (fn_arg s r c.loop-j.j) && not (flag1 (row_flags s r))) = search rules in
+    turn _ _ c.loop-j.invariant (meant-if _ c.error_if.ensures test)

@@ -1,14 +1,8 @@
 -- `typecheck_rows::rows::check_fn_args` meets its contract: the arguments before j have given their messages. Assumes nothing.
-use Prim.Native.Nat.{◌≤◌, ◌-◌}
-use mathlib.Core.Path.{◌≡◌}
-use lib.ListN.{length}
 use Rattle.rules.specs.Base.{over}
 use Rattle.errors.specs.Sink.{Reported}
 use Rattle.typecheck_rows.specs.Tests.{pointer_arg}
 use Rattle.typecheck_rows.proofs.rows.check_fn_args.Given as goal
 
 abbrev pub invariant-loop-j : goal.invariant-loop-j
-invariant-loop-j l = (length l.out ≡ length l.initial.out) × (l.j ≤ l.n) × Reported l.initial.out l.initial.e (over l.j (pointer_arg l.s l.r)) l.e l.out
-
-abbrev pub decreases-loop-j : goal.decreases-loop-j
-decreases-loop-j l = l.n - l.j
+invariant-loop-j l = Reported l.initial.cx (over l.j (pointer_arg l.s l.r)) l.cx

@@ -1,8 +1,13 @@
--- `types::reasons::count_name` meets its contract: what is no name has no entry.
+-- `types::reasons::count_name` meets its contract: none counts nothing, and a name has one reason more.
 -- Assumes nothing.
 use mathlib.Core.List.{[]}
-use Rattle.types.proofs.Counting.{name-counted}
+use Rattle.types.proofs.Counting.{tally-none, counted-once, name-counted}
 use Rattle.types.proofs.reasons.count_name.Goals as goal
 
+pub returns-in_default : goal.returns-in_default
+returns-in_default c = rw c.in_default.is tally-none
+
 pub returns : goal.returns
-returns c = name-counted [] _ c.args.n (c.reasons_for.ensures []) c.one_more-count.ensures c.enter_if.ensures
+returns c =
+    rw c.in-Some.is
+    (name-counted [] _ c.in-Some.n (c.reasons_for.ensures []) (counted-once c.reasons_for.type_inv c.saturating_add-count.ensures) c.enter_if.ensures)

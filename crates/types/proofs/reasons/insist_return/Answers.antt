@@ -6,8 +6,5 @@ use Rattle.types.proofs.reasons.insist_return.Goals as goal
 pub returns-then-row-eq-NONE : goal.returns-then-row-eq-NONE
 returns-then-row-eq-NONE c = return-none _ _ _ c.if-row-eq-NONE.true
 
-pub insist-requires : goal.insist-requires
-insist-requires c = c.requires
-
 pub returns : goal.returns
 returns c = return-some _ _ _ c.if-row-eq-NONE.false c.insist.ensures

@@ -14,9 +14,6 @@ returns-then-no_cxx c =
     all_nothing c.args.s.now c.args.names.now
     (λ r. nothing-wanted c.args.s.now (tabled c.args.s.now c.args.names.now) r (c.no_cxx.ensures c.if-no_cxx.true c.args.s.now)) c.args.scratch.now c.args.n
 
-pub insist_items-requires : goal.insist_items-requires
-insist_items-requires c = record { wants = c.wants-wants.ensures; accepted = c.requires }
-
 pub insist_rows-requires : goal.insist_rows-requires
 insist_rows-requires c = wants-same c.args.s.now c.wants-wants.result c.insist_items.ensures c.wants-wants.ensures
 

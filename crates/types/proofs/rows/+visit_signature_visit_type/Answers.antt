@@ -4,8 +4,9 @@ use mathlib.Core.Path.{◌≡◌, refl, sym, ap, ◌∙◌}
 use mathlib.Core.Bool.{true}
 use mathlib.Core.List.{[], ◌∷◌}
 use native.Mathlib.Omega.{arith}
+use borrow.Author.Tests.{eqb-true, eqb-false}
 use Rattle.std.proofs.Common.{◌+◌}
-use Rattle.rules.specs.View.{kind, or_nothing, fn_return}
+use Rattle.rules.specs.View.{is, kind, or_nothing, fn_return}
 use Rattle.laws.proofs.Sheet.Accepted.Rows.{row_of}
 use Rattle.laws.specs.Kinds.{leaf}
 use Rattle.laws.proofs.Sheet.Collect.Shown.{shown-leaf, shown-fn}
@@ -40,7 +41,6 @@ visit_signature-loop-j-init t c =
       | visit_signature-else-result w ↦ rw (w.scratch-is, w.m-is, ← e) (none R.ready.walk w.if-result.false)
     ] in
     record {
-      within = omega arith;
       returned = returned;
       walked = to_none (c.offset.result + 6) (returned.grown a.row (omega arith)).held;
     }
@@ -69,7 +69,6 @@ visit_signature-loop-j-preserved t c =
     let l = c.loop-j in
     let x = args-less a.s.now row R.is_fn c.offset.ensures c.pair_at-count.ensures c.loop-j-test.true c.entry-arg.ensures in
     record {
-      within = omega arith;
       returned = l.invariant.returned;
       walked = to-more (c.offset.result + 6) l.j l.invariant.walked c.entry-arg.ensures x c.visit_type-m-in-loop-j.ensures;
     }
@@ -77,7 +76,7 @@ visit_signature-loop-j-preserved t c =
 pub visit_signature-returns : goal.visit_signature-returns
 visit_signature-returns t c =
     let l = c.loop-j in
-    let e : l.j ≡ c.pair_at-count.result = omega (arith, c.loop-j-test.false) in
+    let e : l.j ≡ c.pair_at-count.result = omega arith in
     let w = to_end (c.offset.result + 6) l.j l.invariant.walked (e ∙ c.pair_at-count.ensures) in
     rw (← (args_are c.args.s.now c.args.row c.offset.ensures)) (further l.invariant.returned w)
 
@@ -92,15 +91,16 @@ visit_type-add-m-requires t c =
     let R = c.requires in
     record { below = few R; long = R.walk.long; held = R.walk.held; unseen = sym c.seen.ensures ∙ c.if-seen.false }
 
-pub visit_type-returns-then-leaf : goal.visit_type-returns-then-leaf
-visit_type-returns-then-leaf t c =
+pub visit_type-returns-then-is_leaf : goal.visit_type-returns-then-is_leaf
+visit_type-returns-then-is_leaf t c =
     let a = c.args in
     let o = sym c.seen.ensures ∙ c.if-seen.false in
     let d = c.add-m in
-    let h : leaf (kind a.s.now a.row) ≡ true = ap leaf (sym c.kind-k.ensures) ∙ sym c.leaf.ensures ∙ c.if-leaf.true in
+    let h : leaf (kind a.s.now a.row) ≡ true = sym c.is_leaf.ensures ∙ c.if-is_leaf.true in
     new c.requires o d.ensures (shown-leaf a.s.now a.row (kind a.s.now a.row) h refl) (still d.ensures.held)
 
 pub visit_type-visit_signature-requires : goal.visit_type-visit_signature-requires
+unfolding is
 visit_type-visit_signature-requires t c =
     let R = c.requires in
     let d = c.add-m in
@@ -108,38 +108,43 @@ visit_type-visit_signature-requires t c =
       omega arith,
       record {
         ready = record { walk = held_next R.walk d.ensures.held d.auto.scratch; below = R.below };
-        is_fn = sym c.kind-k.ensures ∙ c.if-k-eq-FN.true;
+        is_fn = eqb-true _ _ (sym c.is.ensures ∙ c.if-is.true);
       },
     )
 
-pub visit_type-returns-then-k-eq-FN : goal.visit_type-returns-then-k-eq-FN
-visit_type-returns-then-k-eq-FN t c =
+pub visit_type-returns-then-is : goal.visit_type-returns-then-is
+unfolding is
+visit_type-returns-then-is t c =
     let o = sym c.seen.ensures ∙ c.if-seen.false in
     new
     c.requires
     o
     c.add-m.ensures
-    (shown-fn c.args.s.now c.args.row (sym c.kind-k.ensures ∙ c.if-k-eq-FN.true))
+    (shown-fn c.args.s.now c.args.row (eqb-true _ _ (sym c.is.ensures ∙ c.if-is.true)))
     c.visit_signature.ensures
 
 pub visit_type-visit_type-requires : goal.visit_type-visit_type-requires
+unfolding is
 visit_type-visit_type-requires t c =
     let a = c.args in
     let R = c.requires in
     let d = c.add-m in
     let e = c.inner-inner.ensures in
     let q = c.decreases in
-    let l = inner-less a.s.now R.walk.accepted a.row R.below c.kind-k.ensures (sym c.leaf.ensures ∙ c.if-leaf.false) c.if-k-eq-FN.false in
+    let g = eqb-false _ _ (sym c.is.ensures ∙ c.if-is.false) in
+    let l = inner-less a.s.now R.walk.accepted a.row R.below refl (sym c.is_leaf.ensures ∙ c.if-is_leaf.false) g in
     let b = R.below in
     (omega arith, record { walk = held_next R.walk d.ensures.held d.auto.scratch; below = omega arith })
 
 pub visit_type-returns : goal.visit_type-returns
+unfolding is
 visit_type-returns t c =
     let a = c.args in
     let R = c.requires in
     let o = sym c.seen.ensures ∙ c.if-seen.false in
     let e = c.inner-inner.ensures in
-    let f = sym c.leaf.ensures ∙ c.if-leaf.false in
-    let l = inner-less a.s.now R.walk.accepted a.row R.below c.kind-k.ensures f c.if-k-eq-FN.false in
-    let q = shown-one a.s.now a.row c.kind-k.ensures f c.if-k-eq-FN.false in
+    let f = sym c.is_leaf.ensures ∙ c.if-is_leaf.false in
+    let g = eqb-false _ _ (sym c.is.ensures ∙ c.if-is.false) in
+    let l = inner-less a.s.now R.walk.accepted a.row R.below refl f g in
+    let q = shown-one a.s.now a.row refl f g in
     new R o c.add-m.ensures (q ∙ ap (λ x. x ∷ []) (sym e)) (wider c.visit_type.ensures (omega arith))

@@ -1,7 +1,7 @@
 -- `types::rows::visit_type` and `visit_signature` call each other: the row number falls, where a type's walk comes before that of its own signature.
 -- The loop's invariant: the return was walked before the loop, if there is one, and then the first j arguments.
 -- Assumes nothing.
-use Rattle.std.proofs.Common.{◌-◌, ◌+◌, ◌*◌, ◌≤◌}
+use Rattle.std.proofs.Common.{◌+◌, ◌*◌}
 use Rattle.rules.specs.View.{or_nothing, fn_return}
 use Rattle.types.specs.Walk.{Walks}
 use Rattle.types.proofs.Walking.{first_rows}
@@ -15,10 +15,6 @@ decreases-visit_type l = 2 * l.row + 1
 
 abbrev pub invariant-visit_signature-loop-j : goal.invariant-visit_signature-loop-j
 invariant-visit_signature-loop-j l = record {
-  within : l.j ≤ l.count;
   returned : Walks l.s l.fn.scratch l.initial.scratch l.fn.n l.row (or_nothing (fn_return l.s l.row)) l.initial.m;
   walked : Walks l.s l.initial.scratch l.scratch l.initial.m l.row (first_rows l.s l.args l.j) l.m;
 }
-
-abbrev pub decreases-visit_signature-loop-j : goal.decreases-visit_signature-loop-j
-decreases-visit_signature-loop-j l = l.count - l.j

@@ -1,8 +1,5 @@
 -- `types::rows::visit_items` meets its contract. The invariant: what the first i items show was walked.
 -- Assumes nothing.
-use Prim.Native.Nat.{◌≤◌, ◌-◌}
-use mathlib.Core.Path.{◌≡◌}
-use lib.ListN.{length}
 use Rattle.rules.specs.Base.{over}
 use Rattle.rules.specs.View.{rows}
 use Rattle.rules.specs.Collect.{shown_by}
@@ -10,8 +7,4 @@ use Rattle.types.specs.Walk.{Walks}
 use Rattle.types.proofs.rows.visit_items.Given as goal
 
 abbrev pub invariant-loop-i : goal.invariant-loop-i
-invariant-loop-i l =
-    (length l.scratch ≡ length l.initial.scratch) × (l.i ≤ l.count) × Walks l.s l.initial.scratch l.scratch 0 (rows l.s) (over l.i (shown_by l.s)) l.n
-
-abbrev pub decreases-loop-i : goal.decreases-loop-i
-decreases-loop-i l = l.count - l.i
+invariant-loop-i l = Walks l.s l.initial.scratch l.scratch 0 (rows l.s) (over l.i (shown_by l.s)) l.n

@@ -1,6 +1,0 @@
--- `then_repr` goes on from a step: by whether that was refused.
--- Assumes nothing.
-use Rattle.sheet.proofs.item_steps.then_repr.Goals as goal
-
-pub returns-in-Next : goal.returns-in-Next
-returns-in-Next c = rw c.in-Next.is c.repr.ensures

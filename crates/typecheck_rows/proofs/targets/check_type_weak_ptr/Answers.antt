@@ -1,7 +1,0 @@
--- `typecheck_rows::targets::check_type_weak_ptr` meets its contract: the one rule, with its messages. Assumes nothing.
-use Rattle.rules.specs.Check.{check_type_weak_ptr}
-use Rattle.typecheck_rows.proofs.targets.check_type_weak_ptr.Goals as goal
-
-pub returns : goal.returns
-unfolding check_type_weak_ptr
-returns c = c.check_counted_ptr.ensures

@@ -1,5 +1,0 @@
--- `typecheck_rows::targets::is_opaque_target` meets its contract: what its calls ensure, put together. Assumes nothing.
-use Rattle.typecheck_rows.proofs.targets.is_opaque_target.Goals as goal
-
-pub returns : goal.returns
-returns c = rw (c.target_is.ensures, c.is_opaque-opaque.ensures c.args.s.now, c.target_name.ensures) at c.and.ensures

@@ -1,5 +1,0 @@
--- `typecheck_rows::targets::is_unique_target` meets its contract: what its calls ensure, put together. Assumes nothing.
-use Rattle.typecheck_rows.proofs.targets.is_unique_target.Goals as goal
-
-pub returns : goal.returns
-returns c = rw (c.or.ensures, c.is_atom.ensures, c.target_is.ensures, c.target_name-n.ensures) at c.and.ensures
