@@ -1,6 +1,6 @@
 -- An answer made of its parts is the one that the rules give: a set by its words, a size by its set, the reasons one after another.
 -- Assumes nothing.
-use mathlib.Core.Path.{◌≡◌, refl, ◌∙◌, ap}
+use mathlib.Core.Path.{◌≡◌, refl, sym, ◌∙◌, ap}
 use Prim.Native.Nat.{ℕ, ◌+◌, ◌<◌}
 use native.Mathlib.Omega.{arith}
 use mathlib.Core.List.{List, [], ◌∷◌, ◌++◌, append-nil}
@@ -12,12 +12,12 @@ use Rattle.rules.specs.declared.Refusal.{Refusal}
 use Rattle.rules.specs.declared.NameSet.{NameSet}
 use Rattle.rules.specs.declared.Answer.{Answer}
 use Rattle.rules.specs.Names.{Words, empty, size}
-use Rattle.rules.specs.Types.{reasons_for}
 use Rattle.rules.specs.Answer.{name_set, refused}
 use Rattle.laws.proofs.Base.Lists.{over-length}
 use Rattle.laws.proofs.Base.Flat.{take_more}
 use Rattle.laws.proofs.Base.Stores.{sets-append}
-use Rattle.names.specs.Known.{entry_at, names_in, counts_in, tabled}
+use Rattle.names.specs.Known.{entry_at, names_in, counts_in}
+use Rattle.names.proofs.Columns.{count-is as entry-is}
 use Rattle.bridge_core.specs.Run.{answer_with}
 
 -- ## Refused
@@ -58,12 +58,12 @@ module _ (w : List ℕ) where
   unfolding counted_to
   counted_start = refl
 
-  pub counted-more : (n : ℕ) {x : ℕ} → n < name_count → ((s : List ℕ) → x ≡ reasons_for (tabled s w) n) → set (counted_to n) n x ≡ counted_to (n + 1)
-  unfolding counted_to reasons_for tabled
+  pub counted-more : (n : ℕ) {x : ℕ} → n < name_count → x ≡ entry_at w required_trivial_set n → set (counted_to n) n x ≡ counted_to (n + 1)
+  unfolding counted_to
   counted-more n h e =
       let long : length counts ≡ name_count = counts-long in
       let at : n ≡ 0 + length (take n counts) = omega (arith, length-take-le n counts (omega arith)) in
-      ap (λ (y : ℕ). set (counted_to n) n y) (e [])
+      ap (λ (y : ℕ). set (counted_to n) n y) (e ∙ sym (entry-is w required_trivial_set n))
       ∙ ap (λ (k : ℕ). sets (counted_to n) k (get_or counts n 0 ∷ [])) at
       ∙ sets-append (replicate name_count 0) 0 (take n counts) (get_or counts n 0 ∷ [])
       ∙ ap (λ (l : List ℕ). sets (replicate name_count 0) 0 l) (take_more counts n 0 (omega arith))

@@ -18,7 +18,8 @@ use Rattle.rules.specs.Report.{report, report_of}
 use Rattle.rules.specs.Answer.{sets_of, accepted, cleared}
 use Rattle.errors.specs.declared.Errors.{Errors}
 use Rattle.errors.specs.Sink.{most, Reported, also, meant}
-use Rattle.laws.specs.RowTable.{RowTable}
+use Rattle.laws.specs.RowTable.{LeadRows}
+use Rattle.std.specs.Prelude.{Option}
 use Rattle.laws.proofs.Rule3.PlainFields.{plain}
 use Rattle.laws.proofs.Rule3.Order.{places-are}
 use Rattle.laws.proofs.Report.Bounds.Total.{total-few}
@@ -56,7 +57,7 @@ module _ {s b b' names : List ℕ} {cx₀ cx₁ : Errors} {k : ℕ} (c : Collect
       cleared-over scratch_size b b'
       (sym (drop-drop behind marks_end b') ∙ ap (drop behind) c.rest ∙ drop-drop behind marks_end (replicate scratch_size 0 ++ drop scratch_size b))
 
-  module _ {d : List ℕ} {w : Sorted} {cx₂ cx : Errors} (acc : Accepted s) (held : RowTable s (plain_lead s (types_of s)) d)
+  module _ {d : List (Option ℕ)} {w : Sorted} {cx₂ cx : Errors} (acc : Accepted s) (held : LeadRows s (plain_lead s (types_of s)) d)
       (o : Sorts s d cx₁ w cx₂) (told : Reported cx₂ (checks s (types_of s)) cx) where
     all_told : Reported cx₀ (report s) cx
     unfolding report report_of

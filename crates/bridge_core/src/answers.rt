@@ -31,7 +31,7 @@ fn reasons(table: &Names) -> [u16; 256]
 {
     let mut all = [0u16; 256];
     for n in 0..256u16 {
-        all[n as usize] = known::reasons_for(table, n);
+        all[n as usize] = known::count(table, n);
     }
     all
 }

@@ -4,13 +4,14 @@
 use Prim.Native.Nat.{ℕ, zero, suc, ◌≤◌, ◌<◌}
 use mathlib.Core.Path.{◌≡◌, refl, sym, ap, ◌∙◌, subst}
 use mathlib.Core.Bool.{Bool, true, false}
-use mathlib.Core.List.{List, []}
+use mathlib.Core.List.{List}
 use native.Mathlib.Numerals.{add-one}
 use native.Mathlib.Omega.{arith}
 use lib.Dec.{eqb}
-use lib.ListN.{length, get_or}
+use lib.ListN.{length}
 use denote.Ref.{Bor}
 use Rattle.std.specs.Prelude.{Option, Some, None}
+use Rattle.rules.specs.declared.NameSet.{NameSet}
 use Rattle.rules.specs.Names.{Words, ◌∋◌, add}
 use Rattle.rules.specs.Types.{types_of}
 use Rattle.rules.specs.Improper.{Look, fine, bad, to, Looks, looks_fields, looks_look, looks_of, hits, is_new, pass_to}
@@ -19,7 +20,7 @@ use Rattle.laws.proofs.Base.Tests.{never, neither}
 use Rattle.laws.proofs.Names.NameSets.{has-add}
 use Rattle.laws.proofs.Names.ImproperSearch.{passed}
 use Rattle.improper.specs.Post.{Passes}
-use Rattle.improper.specs.Targets.{Apart, LeadsBelow, Skips, NoneBad, Later, LaterBy}
+use Rattle.improper.specs.Targets.{set_at, Apart, LeadsBelow, Skips, NoneBad, Later, LaterBy}
 use Rattle.improper.proofs.PassTurns.{found_in, found-start, found-on, found-hit}
 
 module _ (s : List ℕ) where
@@ -86,7 +87,7 @@ module _ (s : List ℕ) where
     pub still-out : (k : ℕ) → k ≤ 256 → Passes s b k w new → (x : ℕ) → w ∋ x ≡ false → b ∋ x ≡ false
     still-out k l p = (leaves k l p).out
 
-    module _ (t : List Words) (p : Passes s b 256 w new) where
+    module _ (t : List NameSet) (p : Passes s b 256 w new) where
       pub later_first : LeadsBelow s w 256 t → Later s w t
       later_first leads = record { leads = leads; none_bad = (leaves 256 (omega arith) p).none_bad }
 
@@ -106,7 +107,7 @@ module _ (s : List ℕ) where
       subst (λ (k : ℕ). found_in s w n k ≡ false) (add-one m) (found-on s w n m (found_none w n m (λ k l. h k (omega arith))) (h m (omega arith)))
 
   -- b are the names found before the pass, w those found so far
-  skipped : (b w : Words) (t : List Words) (n : ℕ) → Later s b t → Apart (get_or t n []) w → n < 256 → b ∋ n ≡ false
+  skipped : (b w : Words) (t : List NameSet) (n : ℕ) → Later s b t → Apart (set_at t n) w → n < 256 → b ∋ n ≡ false
       → found_in s w n (looks_fields s (types_of s) n) ≡ false
   skipped b w t n later apart l e = found_none w n (looks_fields s (types_of s) n) (λ k m. by k m (looks_look s (types_of s) n k) refl)
     where
@@ -116,7 +117,7 @@ module _ (s : List ℕ) where
       by k m (to j) q = apart j ((later.leads.rows n l e).has k j m q)
 
   -- as a pass asks it, with a table or none
-  pub skipped_by : (b w : Words) (t : Option (Bor (List Words))) (n : ℕ) → LaterBy s b t → Skips t n w → n < 256 → b ∋ n ≡ false
+  pub skipped_by : (b w : Words) (t : Option (Bor (List NameSet))) (n : ℕ) → LaterBy s b t → Skips t n w → n < 256 → b ∋ n ≡ false
       → found_in s w n (looks_fields s (types_of s) n) ≡ false
   skipped_by b w None n later skips l e = absurd skips
   skipped_by b w (Some t) n later skips l e = skipped b w t.now n later skips l e

@@ -1,11 +1,11 @@
 // The fields of each name's last struct.
 ghost use Rattle.std.specs.Prelude.{List};
 ghost use Rattle.row_tables.specs.declared.looks.Look.{Look};
+ghost use Rattle.names.specs.Known.{sheet};
 ghost use Rattle.improper.specs.Post.{Searchable};
 ghost use Rattle.improper.specs.Fields.{FieldsOf};
 
-use names::known::{Names, struct_of};
-use rules::item;
+use names::known::Known;
 use sheet::items::rest;
 use sheet::pair_at;
 
@@ -17,14 +17,13 @@ pub struct Fields {
 }
 
 // Those of name n: none where it has no struct.
-pub fn fields_of(s: &[u8], names: &Names, n: u16) -> Fields
-    ensures { (looks : List Look) → Searchable s.now names.now looks → FieldsOf s.now looks n result.at result.count }
+pub fn fields_of(known: &Known<'_>, n: u16) -> Fields
+    ensures { (looks : List Look) → Searchable (sheet known.now) known.now.names.now looks → FieldsOf (sheet known.now) looks n result.at result.count }
 {
-    let i = struct_of(names, n);
-    if i == item::NONE as u16 {
+    let Some(i) = known.struct_of(n) else {
         return Fields { at: 0, count: 0 };
-    }
-    let at = rest(s, i);
-    let count = pair_at(s, at as usize);
+    };
+    let at = rest(known.s, i);
+    let count = pair_at(known.s, at as usize);
     Fields { at, count }
 }

@@ -1,3 +1,4 @@
+mod Decimal
 pub mod Laws
 pub mod Parts
 pub mod Whole

@@ -1,6 +1,6 @@
 -- The parts of the text, as the code joins them.
 -- Assumes nothing.
-use Prim.Native.Nat.{ℕ, zero, suc, ◌+◌, ◌<◌, ◌≤◌, min}
+use Prim.Native.Nat.{ℕ, zero, suc, ◌+◌, ◌≤◌, min}
 use mathlib.Core.Path.{◌≡◌, refl, sym, ap, ◌∙◌}
 use mathlib.Core.Bool.{Bool, true, false}
 use mathlib.Core.List.{List, [], ◌∷◌, ◌++◌, flat_map, append_assoc}
@@ -14,9 +14,8 @@ use Rattle.rules.specs.declared.Diagnostic.{Diagnostic}
 use Rattle.rules.specs.Base.{if'◌then◌else◌, over}
 use Rattle.rules.specs.Names.{Words, ◌∋◌}
 use Rattle.rules.specs.Diagnostics.{letter_of, numbers_of}
-use Rattle.std.specs.Prelude.{Option, Some, None, slice_get}
+use Rattle.std.specs.Prelude.{Some, None, slice_get}
 use Rattle.rules.specs.Text.{ascii, decimal, spaced, line, tiers_along, members_to, place_text, record_line, printed}
-use Rattle.laws.proofs.Base.Tests.{never}
 use Rattle.laws.proofs.Base.Flat.{flat-one, flat-over}
 use Rattle.laws.proofs.Base.Digits.{short}
 use Rattle.lines.specs.declared.Text.{Text}
@@ -26,12 +25,6 @@ use Rattle.lines.proofs.Laws.{none, also, meant}
 pub few-digits : {w n : ℕ} → Short w n → length (decimal n) ≤ w
 few-digits {w = zero} h = absurd (omega arith)
 few-digits {w = suc w} {n} h = short w n h.1
-
--- an entry that is there, whatever stands for one that is not
-pub entry-any : {A : Type 0} (l : List A) (n : ℕ) (d e : A) → n < length l → get_or l n d ≡ get_or l n e
-entry-any [] n d e h = absurd (omega arith)
-entry-any (x ∷ l) zero d e h = refl
-entry-any (x ∷ l) (suc n) d e h = entry-any l n d e (omega arith)
 
 -- ## The first line
 
@@ -51,11 +44,11 @@ along tiers (i ∷ l) = ap (λ (t : List ℕ). spaced (get_or tiers i 0) ++ t) (
 pub if_yes : (b : Bool) (n : ℕ) → b ≡ true → spaced n ≡ flat_map spaced (if' b then n ∷ [] else [])
 unfolding if'◌then◌else◌
 if_yes true n e = flat-one spaced n
-if_yes false n e = never e
+if_yes false n e = cc
 
 pub if_no : (b : Bool) (n : ℕ) → b ≡ false → [] ≡ flat_map spaced (if' b then n ∷ [] else [])
 unfolding if'◌then◌else◌ flat_map
-if_no true n e = never (sym e)
+if_no true n e = cc
 if_no false n e = refl
 
 pub members-start : (t : Text) (w : Words) → Appends t 0 (flat_map spaced (members_to 0 w)) t
@@ -71,48 +64,42 @@ members-turn k w x e p q =
 
 -- ## A place
 
-none-else : {A : Type 0} {j : ℕ} → ◌≡◌ {A = Option ℕ} (Some j) None → A
-none-else e = absurd (let z : ◌≡◌ {A = ℕ} 0 1 = cc in omega arith)
-
 numbers-one : (p : Place) → slice_get (numbers_of p) 1 ≡ None → get_or (numbers_of p) 0 0 ∷ [] ≡ numbers_of p
 numbers-one (R r) e = refl
-numbers-one (G r j) e = none-else e
+numbers-one (G r j) e = cc
 numbers-one (I i) e = refl
-numbers-one (F i j) e = none-else e
-numbers-one (A i j) e = none-else e
+numbers-one (F i j) e = cc
+numbers-one (A i j) e = cc
 numbers-one (O i) e = refl
-numbers-one (D i j) e = none-else e
-numbers-one (L i j) e = none-else e
-
-some-is : {i j : ℕ} → ◌≡◌ {A = Option ℕ} (Some i) (Some j) → i ≡ j
-some-is e = cc
+numbers-one (D i j) e = cc
+numbers-one (L i j) e = cc
 
 numbers-two : (p : Place) {j : ℕ} → slice_get (numbers_of p) 1 ≡ Some j → get_or (numbers_of p) 0 0 ∷ j ∷ [] ≡ numbers_of p
-numbers-two (R r) e = none-else (sym e)
-numbers-two (G r j) e = ap (λ (k : ℕ). r ∷ k ∷ []) (sym (some-is e))
-numbers-two (I i) e = none-else (sym e)
-numbers-two (F i j) e = ap (λ (k : ℕ). i ∷ k ∷ []) (sym (some-is e))
-numbers-two (A i j) e = ap (λ (k : ℕ). i ∷ k ∷ []) (sym (some-is e))
-numbers-two (O i) e = none-else (sym e)
-numbers-two (D i j) e = ap (λ (k : ℕ). i ∷ k ∷ []) (sym (some-is e))
-numbers-two (L i j) e = ap (λ (k : ℕ). i ∷ k ∷ []) (sym (some-is e))
+numbers-two (R r) e = cc
+numbers-two (G r j) e = cc
+numbers-two (I i) e = cc
+numbers-two (F i j) e = cc
+numbers-two (A i j) e = cc
+numbers-two (O i) e = cc
+numbers-two (D i j) e = cc
+numbers-two (L i j) e = cc
 
 module _ (p : Place) {q : Place} (is : q ≡ p) {x a : ℕ} (e : x ≡ letter_of q) (f : a ≡ get_or (numbers_of q) 0 0) where
   abbrev head : List ℕ
   head = ascii " " ++ (letter_of p ∷ [])
 
-  pub place_one : slice_get (numbers_of p) 1 ≡ None → (ascii " " ++ (x ∷ [])) ++ spaced a ≡ place_text p
+  pub place_one : slice_get (numbers_of q) 1 ≡ None → (ascii " " ++ (x ∷ [])) ++ spaced a ≡ place_text p
   unfolding place_text
-  place_one h = rw (e, f, is) (ap (λ (l : List ℕ). head ++ l) (flat-one spaced _ ∙ ap (flat_map spaced) (numbers-one p h)))
+  place_one h = rw (e, f, is) (ap (λ (l : List ℕ). head ++ l) (flat-one spaced _ ∙ ap (flat_map spaced) (numbers-one p (rw is at h))))
 
-  pub place_two : {j : ℕ} → slice_get (numbers_of p) 1 ≡ Some j → ((ascii " " ++ (x ∷ [])) ++ spaced a) ++ spaced j ≡ place_text p
+  pub place_two : {j : ℕ} → slice_get (numbers_of q) 1 ≡ Some j → ((ascii " " ++ (x ∷ [])) ++ spaced a) ++ spaced j ≡ place_text p
   unfolding place_text flat_map
   place_two {j} h =
       let first : ℕ = get_or (numbers_of p) 0 0 in
       rw (e, f, is)
       (append_assoc head (spaced first) (spaced j)
       ∙ ap (λ (l : List ℕ). head ++ (spaced first ++ l)) (flat-one spaced j)
-      ∙ ap (λ (l : List ℕ). head ++ flat_map spaced l) (numbers-two p h))
+      ∙ ap (λ (l : List ℕ). head ++ flat_map spaced l) (numbers-two p (rw is at h)))
 
 -- ## Counts that are cut
 

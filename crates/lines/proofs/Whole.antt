@@ -1,13 +1,13 @@
 -- The whole text: of a refusal; of an answer, with a count of records that is cut where the printed ones end. Only the first records show in it. And what
--- `write` leaves, in its two cases.
+-- `write` leaves, where there is room.
 -- Assumes nothing.
-use Prim.Native.Nat.{ℕ, ◌+◌, ◌≤◌, ◌<◌, min}
+use Prim.Native.Nat.{ℕ, ◌+◌, ◌≤◌, min}
 use mathlib.Core.Path.{◌≡◌, refl, sym, ap, ◌∙◌}
 use mathlib.Core.List.{List, [], ◌∷◌, ◌++◌, flat_map, append_assoc}
 use native.Mathlib.Omega.{arith}
 use lib.ListN.{length, get_or, take, drop}
 use lib.Seq.{sets, sets-eq}
-use Rattle.std.specs.Prelude.{⊤, Result, Ok, Err}
+use Rattle.std.specs.Prelude.{⊤, Result, Ok, Err, Option, Some}
 use Rattle.rules.specs.Numbers.{name_count}
 use Rattle.rules.specs.declared.Refusal.{Refusal}
 use Rattle.rules.specs.declared.Answer.{Answer}
@@ -65,19 +65,17 @@ module _ (a : Answer) where
 
 module _ {text out : List ℕ} where
   pub wrote : {t t' : Text} {out' : List ℕ} → most ≤ length out → Appends t most text t' → t.out.now ≡ out → t.len ≡ 0 → out' ≡ t'.out.now
-      → Wrote text out t'.len out'
+      → Wrote text out (Some t'.len) out'
   wrote {t} {t'} h p from fresh to =
-      let size : 0 + length text ≡ t'.len = omega (arith, p.reached) in
+      let size : length text ≡ t'.len = omega (arith, p.reached) in
+      let whole : 0 + length text ≡ length text = omega arith in
       let front : sets t.out.now t.len text ≡ sets out 0 text = rw (from, fresh) in
       record {
-        bytes = λ _. to ∙ p.stored.stored ∙ front ∙ sets-eq text out 0 (omega arith) ∙ ap (λ (k : ℕ). text ++ drop k out) size;
-        size = λ _. omega arith;
+        bytes = λ _. to ∙ p.stored.stored ∙ front ∙ sets-eq text out 0 (omega arith) ∙ ap (λ (k : ℕ). text ++ drop k out) whole;
+        size = λ _. ap {B = Option ℕ} (λ (k : ℕ). Some k) (sym size);
         within = omega (arith, p.few);
         untouched = λ g. absurd (omega arith);
       }
 
-  pub nothing : length out < most → Wrote text out 0 out
-  nothing h = record { bytes = λ g. absurd (omega arith); size = λ g. absurd (omega arith); within = omega arith; untouched = λ _. (refl, refl) }
-
-pub wrote-meant : {xs ys out out' : List ℕ} {r : ℕ} → Wrote xs out r out' → xs ≡ ys → Wrote ys out r out'
+pub wrote-meant : {xs ys out out' : List ℕ} {r : Option ℕ} → Wrote xs out r out' → xs ≡ ys → Wrote ys out r out'
 wrote-meant w e = rw e at w

@@ -1,6 +1,6 @@
 -- What `write` promises of the buffer.
 -- Assumes nothing: these are definitions.
-use Rattle.std.specs.Prelude.{ℕ, ◌≤◌, ◌<◌, ◌≡◌, List, ◌++◌, length, take, drop}
+use Rattle.std.specs.Prelude.{ℕ, ◌≤◌, ◌<◌, ◌≡◌, Option, Some, None, IfSome, List, ◌++◌, length, take, drop}
 use Rattle.rules.specs.declared.Answer.{Answer}
 use Rattle.rules.specs.Text.{line, tiers_along}
 
@@ -12,9 +12,10 @@ structs_text a = line "order" (take a.structs a.order) ++ line "tiers" (tiers_al
 abbrev pub most : ℕ
 most = 14379
 
--- a text written into a buffer: the text, and then what stood there; the answer is its length. A buffer without room for the longest text is left as it was
-pub record Wrote (text out : List ℕ) (r : ℕ) (out' : List ℕ) : Type 0 where
-  pub bytes : most ≤ length out → out' ≡ text ++ drop r out
-  pub size : most ≤ length out → r ≡ length text
-  pub within : r ≤ most
-  pub untouched : length out < most → (r ≡ 0) × (out' ≡ out)
+-- a text written into a buffer: the text, and then what stood there; the answer is its length. A buffer without room for the longest text is left as it was,
+-- and no length is given
+pub record Wrote (text out : List ℕ) (r : Option ℕ) (out' : List ℕ) : Type 0 where
+  pub bytes : most ≤ length out → out' ≡ text ++ drop (length text) out
+  pub size : most ≤ length out → r ≡ Some (length text)
+  pub within : IfSome r (λ n. n ≤ most)
+  pub untouched : length out < most → (r ≡ None) × (out' ≡ out)

@@ -3,12 +3,13 @@
 
 ghost use Rattle.std.specs.Prelude.{[], ◌∷◌, ◌+◌, ◌*◌, ◌≤◌, length, take};
 ghost use Rattle.rules.specs.Numbers.{name_count, page_size};
+ghost use Rattle.rules.specs.Answer.{fault_number};
 ghost use Rattle.rules.specs.Text.{line, tiers_along, members_to, printed, refused_text, accepted_text, text_of};
 ghost use Rattle.lines.specs.Put.{structs_text, most, Wrote};
 ghost use Rattle.lines.specs.Appends.{Appends, Room};
 
 use rules::size::PAGE;
-use rules::{Answer, Diagnostic, NameSet, set};
+use rules::{Answer, Diagnostic, NameSet, Refusal, set};
 
 mod lists; // words, and numbers one after another
 mod numbers; // bytes and decimal numbers
@@ -21,6 +22,7 @@ pub const MOST: usize = 14379;
 const PRINTED: usize = 512;
 
 // A text in a lent buffer, that grows: so far it is the buffer's first `len` bytes.
+// It is not written by `Display`: the text is defined as bytes and has to fit in the lent buffer, and a formatter would make neither plainer.
 #[derive(Drop)]
 struct Text<'a> {
     out: &'a mut [u8],
@@ -64,14 +66,14 @@ impl Text<'_> {
         self.put_byte(b'\n');
     }
 
-    fn put_refusal(&mut self, number: u8, position: usize)
+    fn put_refusal(&mut self, refusal: Refusal)
         requires { Room self.old 36 }
-        ensures { Appends self.old 36 (refused_text number position) self.new }
+        ensures { Appends self.old 36 (refused_text (fault_number refusal.fault) refusal.position) self.new }
     {
         self.put_word(b"refused");
-        self.put_number::<3>(number as u64);
+        self.put_number::<3>(refusal.fault.number() as u64);
         self.put_word(b" at");
-        self.put_number::<20>(position as u64);
+        self.put_number::<20>(refusal.position as u64);
         self.put_byte(b'\n');
     }
 
@@ -100,20 +102,20 @@ impl Text<'_> {
         ensures { Appends self.old most (text_of answer.now (take answer.now.total list.now)) self.new }
     {
         match answer.verdict {
-            Err(refusal) => self.put_refusal(refusal.fault.number(), refusal.position),
+            Err(refusal) => self.put_refusal(refusal),
             Ok(()) => self.put_accepted(answer, &list[..answer.total.min(PRINTED)]),
         }
     }
 }
 
-// The text of an answer and of the records that the list has. Gives its length; 0, and writes nothing, where the buffer has no room for the longest text.
-pub fn write(out: &mut [u8], answer: Answer, list: [Diagnostic; PAGE]) -> usize
-    ensures { Wrote (text_of answer (take answer.total list)) out.old result out.new }
+// The text of an answer and of the records that the list has. Gives its length; writes nothing where the buffer has no room for the longest text.
+pub fn write(out: &mut [u8], answer: &Answer, list: &[Diagnostic; PAGE]) -> Option<usize>
+    ensures { Wrote (text_of answer.now (take answer.now.total list.now)) out.old result out.new }
 {
     if out.len() < MOST {
-        return 0;
+        return None;
     }
     let mut text = Text { out, len: 0 };
-    text.put_answer(&answer, &list);
-    text.len
+    text.put_answer(answer, list);
+    Some(text.len)
 }

@@ -1,8 +1,8 @@
-// Words, and numbers one after another.
+// Words, and numbers one after another: of a list, of what the tiers say along one, of a set. They are three loops of a line each; one over an iterator
+// would have to name in its clause the list that the iterator gives.
 ghost use Rattle.std.specs.Prelude.{◌≡◌, ◌*◌, length, get_or};
-ghost use mathlib.Core.List.{[], ◌∷◌, flat_map};
+ghost use mathlib.Core.List.{flat_map};
 ghost use Rattle.rules.specs.Numbers.{name_count};
-ghost use Rattle.rules.specs.Base.{if'◌then◌else◌};
 ghost use Rattle.rules.specs.Text.{spaced, tiers_along, members_to};
 ghost use Rattle.lines.specs.Appends.{Appends, Room};
 
@@ -45,22 +45,15 @@ impl Text<'_> {
         }
     }
 
-    pub fn put_if(&mut self, yes: bool, n: u8)
-        requires { Room self.old 4 }
-        ensures { Appends self.old 4 (flat_map spaced (if' yes then n ∷ [] else [])) self.new }
-    {
-        if yes {
-            self.put_number::<3>(n as u64);
-        }
-    }
-
     // The names that a set has.
     pub fn put_members(&mut self, set: NameSet)
         requires { Room self.old 1024 }
         ensures { Appends self.old 1024 (flat_map spaced (members_to name_count set.words)) self.new }
     {
         for k in 0..256 {
-            self.put_if(names::contains(set, k), k as u8);
+            if names::contains(&set, k) {
+                self.put_number::<3>(k as u64);
+            }
         }
     }
 }

@@ -6,7 +6,6 @@ ghost use Rattle.lines.specs.Appends.{Appends, Room};
 
 use crate::Text;
 use errors::at::At;
-use errors::places;
 use rules::{Diagnostic, Place};
 
 impl Text<'_> {
@@ -18,7 +17,7 @@ impl Text<'_> {
         self.put_byte(b' ');
         self.put_byte(at.letter());
         self.put_number::<5>(at.first() as u64);
-        if let Some(second) = places::second(p) {
+        if let Some(second) = at.second() {
             self.put_number::<3>(second as u64);
         }
     }

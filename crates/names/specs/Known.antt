@@ -9,6 +9,7 @@ use Rattle.rules.specs.Format.{Accepted}
 use Rattle.rules.specs.Names.{Words, names_below}
 use Rattle.rules.specs.Collect.{last_to}
 use Rattle.rules.specs.Types.{Types, types_of}
+use Rattle.names.specs.declared.known.Known.{Known}
 
 abbrev pub type_column : ℕ
 type_column = 7
@@ -68,6 +69,13 @@ tabled s w =
       last_untrusted = last_in w untrusted_set;
       last_type = last_in w type_column;
     }
+
+-- the bytes of a sheet that is lent with its table, and the types, as the table has them
+abbrev pub sheet : Known → List ℕ
+sheet known = known.s.now
+
+abbrev pub types : Known → Types
+types known = tabled known.s.now known.names.now
 
 -- the sheet is accepted, and the table is its own
 pub record OwnNames (s w : List ℕ) : Type 0 where

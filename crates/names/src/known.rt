@@ -1,26 +1,14 @@
-// What is known of the names: one table, and the functions that are the only way to ask it.
-ghost use Rattle.std.specs.Prelude.{◌≡◌, List, ℕ, ltb};
-ghost use Rattle.rules.specs.Types.{
-  is_struct,
-  is_enum,
-  is_cxx,
-  is_rust,
-  is_alias,
-  is_untrusted,
-  is_required_trivial,
-  is_extern,
-  is_opaque,
-  struct_of,
-  untrusted_of,
-  type_of,
-  reasons_for,
-};
-ghost use Rattle.names.specs.Known.{type_column, entry_at, item_in, names_in, tabled, entered};
+// What is known of the names: one table, how it is filled, and what is asked of it.
+ghost use Rattle.std.specs.Prelude.{◌≡◌, ℕ};
+ghost use Rattle.rules.specs.Numbers.{no_item, required_trivial_set};
+ghost use Rattle.rules.specs.Kinds.{some_unless};
+ghost use Rattle.names.specs.Known.{entry_at, item_in, names_in, entered};
 
 use crate::{empty, insert};
 use rules::{NameSet, item, name, set};
 
-// Eight columns with an entry for each name: seven sets, in the places of rules::set, and the types.
+// Eight columns with an entry for each name: seven sets, in the places of rules::set, and the types. An entry is a number in each, an item's plus 1 or a count,
+// and 0 for none: columns of options beside one of counts would ask for each store and look-up twice.
 pub const COLUMNS: usize = 8;
 
 pub const TABLE: usize = COLUMNS * name::COUNT;
@@ -30,7 +18,7 @@ pub type Names = [u16; TABLE];
 pub const TYPES: usize = 7;
 
 // How many names there are, as wide as a name.
-const NAMES: u16 = name::COUNT as u16;
+pub const NAMES: u16 = name::COUNT as u16;
 
 // ## Entries
 
@@ -55,14 +43,18 @@ pub fn enter_if(names: &mut Names, k: usize, yes: bool, n: u16, x: u16)
     }
 }
 
-// The item that an entry means, or none.
-fn item_in(entry: u16) -> u16
-    ensures { result ≡ item_in entry }
+// The item that an entry means, if it means one.
+fn item_in(entry: u16) -> Option<u16>
+    ensures { result ≡ some_unless no_item (item_in entry) }
 {
     if entry == 0 {
-        return item::NONE as u16;
+        return None;
     }
-    entry - 1
+    let item = entry - 1;
+    if item == item::NONE {
+        return None;
+    }
+    Some(item)
 }
 
 // The set of the names that have an entry in column k.
@@ -78,93 +70,127 @@ pub fn set_of(names: &Names, k: usize) -> NameSet
     set
 }
 
-// ## What is asked of a name
-
-pub fn is_struct(names: &Names, n: u16) -> bool
-    ensures { (s : List ℕ) → result ≡ is_struct (tabled s names.now) n }
-{
-    0 < entry(names, set::STRUCTS, n)
-}
-
-pub fn is_enum(names: &Names, n: u16) -> bool
-    ensures { (s : List ℕ) → result ≡ is_enum (tabled s names.now) n }
-{
-    0 < entry(names, set::ENUMS, n)
-}
-
-pub fn is_cxx(names: &Names, n: u16) -> bool
-    ensures { (s : List ℕ) → result ≡ is_cxx (tabled s names.now) n }
-{
-    0 < entry(names, set::CXX, n)
-}
-
-pub fn is_rust(names: &Names, n: u16) -> bool
-    ensures { (s : List ℕ) → result ≡ is_rust (tabled s names.now) n }
-{
-    0 < entry(names, set::RUST, n)
-}
-
-pub fn is_alias(names: &Names, n: u16) -> bool
-    ensures { (s : List ℕ) → result ≡ is_alias (tabled s names.now) n }
-{
-    0 < entry(names, set::ALIASES, n)
-}
-
-pub fn is_untrusted(names: &Names, n: u16) -> bool
-    ensures { (s : List ℕ) → result ≡ is_untrusted (tabled s names.now) n }
-{
-    0 < entry(names, set::UNTRUSTED, n)
-}
-
-pub fn is_required_trivial(names: &Names, n: u16) -> bool
-    ensures { (s : List ℕ) → result ≡ is_required_trivial (tabled s names.now) n }
-{
-    0 < entry(names, set::REQUIRED_TRIVIAL, n)
-}
-
-// Whether some item that is a type bears the name.
-pub fn is_declared(names: &Names, n: u16) -> bool
-    ensures { result ≡ ltb 0 (entry_at names.now type_column n) }
-{
-    0 < entry(names, TYPES, n)
-}
-
-// An extern C++ type: in cxx, and neither struct nor enum.
-pub fn is_extern(names: &Names, n: u16) -> bool
-    ensures { (s : List ℕ) → result ≡ is_extern (tabled s names.now) n }
-{
-    is_cxx(names, n) && !is_struct(names, n) && !is_enum(names, n)
-}
-
-// An extern C++ type that is no alias.
-pub fn is_opaque(names: &Names, n: u16) -> bool
-    ensures { (s : List ℕ) → result ≡ is_opaque (tabled s names.now) n }
-{
-    is_extern(names, n) && !is_alias(names, n)
-}
-
-// The name's last struct, last untrusted CxxType, and last item that is a type; or none.
-pub fn struct_of(names: &Names, n: u16) -> u16
-    ensures { (s : List ℕ) → result ≡ struct_of (tabled s names.now) n }
-{
-    item_in(entry(names, set::STRUCTS, n))
-}
-
-pub fn untrusted_of(names: &Names, n: u16) -> u16
-    ensures { (s : List ℕ) → result ≡ untrusted_of (tabled s names.now) n }
-{
-    item_in(entry(names, set::UNTRUSTED, n))
-}
-
-pub fn type_of(names: &Names, n: u16) -> u16
-    ensures { (s : List ℕ) → result ≡ type_of (tabled s names.now) n }
-{
-    item_in(entry(names, TYPES, n))
-}
-
-// How many reasons the name has to be trivial.
-pub fn reasons_for(names: &Names, n: u16) -> u16
-    ensures { (s : List ℕ) → result ≡ reasons_for (tabled s names.now) n }
+// How many reasons a name has to be trivial.
+pub fn count(names: &Names, n: u16) -> u16
+    ensures { result ≡ entry_at names.now required_trivial_set n }
 {
     entry(names, set::REQUIRED_TRIVIAL, n)
+}
+
+// ## What is asked of a name
+
+// A sheet, and what is known of its names: `Types` of types.rs.
+#[derive(Clone, Copy)]
+pub struct Known<'a> {
+    pub s: &'a [u8],
+    pub names: &'a Names,
+}
+
+impl Known<'_> {
+    ghost use Rattle.std.specs.Prelude.{ltb};
+    ghost use Rattle.rules.specs.Types.{
+      is_struct,
+      is_enum,
+      is_cxx,
+      is_rust,
+      is_alias,
+      is_untrusted,
+      is_required_trivial,
+      is_extern,
+      is_opaque,
+      struct_of,
+      untrusted_of,
+      type_of,
+      reasons_for,
+    };
+    ghost use Rattle.names.specs.Known.{types, type_column};
+
+    pub fn is_struct(&self, n: u16) -> bool
+        ensures { result ≡ is_struct (types self.now) n }
+    {
+        0 < entry(self.names, set::STRUCTS, n)
+    }
+
+    pub fn is_enum(&self, n: u16) -> bool
+        ensures { result ≡ is_enum (types self.now) n }
+    {
+        0 < entry(self.names, set::ENUMS, n)
+    }
+
+    pub fn is_cxx(&self, n: u16) -> bool
+        ensures { result ≡ is_cxx (types self.now) n }
+    {
+        0 < entry(self.names, set::CXX, n)
+    }
+
+    pub fn is_rust(&self, n: u16) -> bool
+        ensures { result ≡ is_rust (types self.now) n }
+    {
+        0 < entry(self.names, set::RUST, n)
+    }
+
+    pub fn is_alias(&self, n: u16) -> bool
+        ensures { result ≡ is_alias (types self.now) n }
+    {
+        0 < entry(self.names, set::ALIASES, n)
+    }
+
+    pub fn is_untrusted(&self, n: u16) -> bool
+        ensures { result ≡ is_untrusted (types self.now) n }
+    {
+        0 < entry(self.names, set::UNTRUSTED, n)
+    }
+
+    pub fn is_required_trivial(&self, n: u16) -> bool
+        ensures { result ≡ is_required_trivial (types self.now) n }
+    {
+        0 < entry(self.names, set::REQUIRED_TRIVIAL, n)
+    }
+
+    // Whether some item that is a type bears the name.
+    pub fn is_declared(&self, n: u16) -> bool
+        ensures { result ≡ ltb 0 (entry_at self.now.names.now type_column n) }
+    {
+        0 < entry(self.names, TYPES, n)
+    }
+
+    // An extern C++ type: in cxx, and neither struct nor enum.
+    pub fn is_extern(&self, n: u16) -> bool
+        ensures { result ≡ is_extern (types self.now) n }
+    {
+        self.is_cxx(n) && !self.is_struct(n) && !self.is_enum(n)
+    }
+
+    // An extern C++ type that is no alias.
+    pub fn is_opaque(&self, n: u16) -> bool
+        ensures { result ≡ is_opaque (types self.now) n }
+    {
+        self.is_extern(n) && !self.is_alias(n)
+    }
+
+    // The name's last struct, last untrusted CxxType, and last item that is a type, if there is one.
+    pub fn struct_of(&self, n: u16) -> Option<u16>
+        ensures { result ≡ some_unless no_item (struct_of (types self.now) n) }
+    {
+        item_in(entry(self.names, set::STRUCTS, n))
+    }
+
+    pub fn untrusted_of(&self, n: u16) -> Option<u16>
+        ensures { result ≡ some_unless no_item (untrusted_of (types self.now) n) }
+    {
+        item_in(entry(self.names, set::UNTRUSTED, n))
+    }
+
+    pub fn type_of(&self, n: u16) -> Option<u16>
+        ensures { result ≡ some_unless no_item (type_of (types self.now) n) }
+    {
+        item_in(entry(self.names, TYPES, n))
+    }
+
+    // How many reasons the name has to be trivial.
+    pub fn reasons_for(&self, n: u16) -> u16
+        ensures { result ≡ reasons_for (types self.now) n }
+    {
+        count(self.names, n)
+    }
 }

@@ -1,4 +1,5 @@
-// Sets of names by value, and what is known of the names in one table that is lent.
+// Sets of names by value, and what is known of the names in one table that is lent. The type of a set stands in rules, as answers are made of it; what is done
+// with one stands here with its proofs, and so is no method.
 #![tactic(auto)]
 
 ghost use Rattle.std.specs.Prelude.{◌≡◌, ◌^◌, ◌%◌, eqb};
@@ -24,14 +25,14 @@ fn has_bit(word: u64, n: u16) -> bool
 }
 
 // The word of name n with its bit set.
-pub fn with_bit(word: u64, n: u16) -> u64
+fn with_bit(word: u64, n: u16) -> u64
     ensures { result ≡ bit_or word (2 ^ (n % 64)) }
 {
     word | (1 << (n % 64))
 }
 
-pub fn contains(set: NameSet, n: u16) -> bool
-    ensures { result ≡ (set.words ∋ n) }
+pub fn contains(set: &NameSet, n: u16) -> bool
+    ensures { result ≡ (set.now.words ∋ n) }
 {
     let q = n as usize / 64;
     q < 4 && has_bit(set.words[q], n)
@@ -54,6 +55,7 @@ fn ones(word: u64) -> u16
     word.count_ones() as u16
 }
 
+// Four words whose ones are added, as docs/DECISIONS.md has the form.
 pub fn size(set: NameSet) -> u16
     ensures { result ≡ size_of set.words }
 {

@@ -6,13 +6,11 @@ ghost use Rattle.lines.specs.Put.{Wrote};
 
 use rules::size::SCRATCH;
 
-// The text of a sheet, and its length. A buffer of lines::MOST bytes has room for every text; a shorter one is left as it was, and the length is 0.
-pub fn text(sheet: &[u8], out: &mut [u8]) -> usize
+// The text of a sheet, and its length. A buffer of lines::MOST bytes has room for every text; a shorter one is left as it was.
+pub fn text(sheet: &[u8], out: &mut [u8]) -> Option<usize>
     ensures { Wrote (sheet_text sheet.now) out.old result out.new }
 {
     let mut scratch = [0u8; SCRATCH];
     let page = paged::call(sheet, &mut scratch);
-    let answer = page.answer;
-    let list = page.list;
-    lines::write(out, answer, list)
+    lines::write(out, &page.answer, &page.list)
 }

@@ -1,7 +1,7 @@
 -- What `replay` asks of the port is what the call answers: an answer and records behind it (`laid`), of the page that the call
--- fills (`told`); no room (`nothing`); and the collected rows, by what the reader says (`no_rows`, `some-rows`).
+-- fills (`told`); no room (`nothing`); and the collected rows, by what the reader says (`no_rows`, `some-rows`), which have room (`room`).
 -- Assumes nothing.
-use Prim.Native.Nat.{ℕ, ◌+◌, ◌≤◌, ◌<◌, min}
+use Prim.Native.Nat.{ℕ, ◌+◌, ◌*◌, ◌≤◌, ◌<◌, min}
 use mathlib.Core.Path.{◌≡◌, refl, sym, ap, ◌∙◌, subst}
 use mathlib.Core.List.{List, [], ◌++◌, flat_map}
 use native.Mathlib.Omega.{arith}
@@ -16,11 +16,12 @@ use Rattle.rules.specs.declared.Diagnostic.{Diagnostic}
 use Rattle.rules.specs.Base.{if'◌then◌else◌}
 use Rattle.rules.specs.Answer.{read_with, call}
 use Rattle.laws.proofs.Base.Stores.{sets-append, sets-kept}
+use Rattle.laws.proofs.Sheet.Collect.{all-few}
 use Rattle.errors.specs.declared.Errors.{Errors}
 use Rattle.errors.specs.Bytes.{Stored}
 use Rattle.errors.specs.Records.{record_bytes}
 use Rattle.types.specs.Post.{Collects}
-use Rattle.bridge_core.specs.Run.{answer_of, records_of}
+use Rattle.bridge_core.specs.Run.{answer_of, records_of, Runnable}
 use Rattle.bridge_core.proofs.RunLaws.{total-is, call-answer, call-list}
 use Rattle.layout.specs.Layout.{answer_bytes, layout_of, fitting, headed, Written}
 use Rattle.replay.specs.Port.{Laid, Told, roomy, CollectedRows, rows_by, RowsOf}
@@ -86,6 +87,9 @@ nothing h = record { bytes = λ g. absurd (omega arith); untouched = λ _. refl 
 
 pub collected : {s sc sc' w : List ℕ} {cx cx' : Errors} {rows : ℕ} → Collects s sc sc' w cx cx' rows → CollectedRows s rows sc'
 collected c = record { count = c.count; row = λ k h. c.pairs k (omega (arith, c.count)) }
+
+pub room : {s sc sc' w : List ℕ} {cx cx' : Errors} {rows : ℕ} → Runnable s sc → Collects s sc sc' w cx cx' rows → 2 * rows ≤ length sc'
+room {s} r c = omega (arith, c.count, c.same, r.long, all-few s r.accepted)
 
 pub no_rows : {s scratch : List ℕ} {room : ℕ} {r : Refusal} → read_with room s ≡ Err r → RowsOf s room 0 scratch
 unfolding rows_by

@@ -8,16 +8,33 @@ use std::io::{Read, Stdin};
 #[derive(Drop)]
 pub struct Ended;
 
-// The number of four bytes at a place, low byte first.
-pub fn long_at(b: &[u8], at: u32) -> u32
+// The number of four bytes at a place, low byte first. Bytes past the end are 0.
+#[tactic(auto, unfolding(rules::specs::Format::pair_at))]
+pub fn long_at(b: &[u8], at: usize) -> u32
     ensures { result ≡ pair_at b.now at + 65536 * pair_at b.now (at + 2) }
 {
-    sheet::pair_at(b, at as usize) as u32 + 65536 * (sheet::pair_at(b, at as usize + 2) as u32)
+    let bytes = b.get(at..).unwrap_or(&[]);
+    let byte = |k: usize| bytes.get(k).copied().unwrap_or(0);
+    u32::from_le_bytes([byte(0), byte(1), byte(2), byte(3)])
 }
 
-// The next n bytes of the input, put at the start of buf. It also ends where they do not fit there.
-pub fn take<'a>(mut input: Stdin, buf: &'a mut [u8], n: usize) -> Result<&'a [u8], Ended> {
-    let part = buf.get_mut(..n).ok_or(Ended)?;
-    input.read_exact(part).map_err(|_| Ended)?;
-    Ok(part)
+// The file, and where each piece of it is put, over the one before.
+#[derive(Drop)]
+pub struct StoredFile<'a> {
+    pub input: Stdin,
+    pub buf: &'a mut [u8],
+}
+
+impl StoredFile<'_> {
+    // The next n bytes. The file also ends where they have no room.
+    pub fn take(&mut self, n: usize) -> Result<&[u8], Ended> {
+        let part = self.buf.get_mut(..n).ok_or(Ended)?;
+        self.input.read_exact(part).map_err(|_| Ended)?;
+        self.buf.get(..n).ok_or(Ended)
+    }
+
+    // The next four bytes, as a number.
+    pub fn number(&mut self) -> Result<u32, Ended> {
+        Ok(long_at(self.take(4)?, 0))
+    }
 }

@@ -5,10 +5,13 @@
 mod input; // the stored file
 mod port; // what the port says of a sheet
 
-use input::{Ended, long_at, take};
-use rules::size::{ANSWER, PAGE, SCRATCH};
+use input::{Ended, StoredFile, long_at};
+use layout::{ORDER, REASONS, SETS, SIZES, TIERS};
+use rules::limit::ITEMS;
+use rules::size::{ANSWER, PAGE, RECORD, SCRATCH};
 use std::fmt;
-use std::io::{Stdin, Stdout, Write};
+use std::io::{Stdout, Write};
+use std::ops::Range;
 
 // ## One stored answer, which is next on the input, against the port's, in the parts of testdata/README.md. The port's stands as docs/LAYOUT.md says.
 
@@ -43,105 +46,95 @@ impl fmt::Display for Part {
     }
 }
 
-// The parts of fixed length: where each begins in the stored answer and in ours, how long it is, and which it is.
-const FIXED: [(u16, u16, u16, Part); 8] = [
-    (0, 0, 1, Part::Verdict),
-    (1, 4, 4, Part::Position),
-    (5, 8, 4, Part::Total),
-    (9, 16, 256, Part::Sets),
-    (265, 272, 16, Part::Sizes),
-    (281, 288, 512, Part::Reasons),
-    (793, 800, 255, Part::Order),
-    (1048, 1056, 255, Part::Tiers),
+// Where the answer's header has the position, the total and the count of records that follow.
+const POSITION: usize = 4;
+
+const TOTAL: usize = 8;
+
+const FOLLOWING: usize = 12;
+
+// The parts of fixed length, in the order of the stored answer, and where each stands in ours.
+const FIXED: [(Part, Range<usize>); 8] = [
+    (Part::Verdict, 0..1),
+    (Part::Position, POSITION..TOTAL),
+    (Part::Total, TOTAL..FOLLOWING),
+    (Part::Sets, SETS..SIZES),
+    (Part::Sizes, SIZES..REASONS),
+    (Part::Reasons, REASONS..ORDER),
+    (Part::Order, ORDER..ORDER + ITEMS),
+    (Part::Tiers, TIERS..TIERS + ITEMS),
 ];
 
-// The n bytes from a place on, if there are so many.
-fn piece(bytes: &[u8], at: u16, n: u16) -> Option<&[u8]> {
-    bytes.get(at as usize..at as usize + n as usize)
-}
-
-// Whether both are there, and the same.
-fn same(a: Option<&[u8]>, b: Option<&[u8]>) -> bool {
-    a.is_some() && a == b
-}
-
-// The first part of fixed length that differs.
-fn fixed_part(stored: &[u8], ours: &[u8]) -> Option<Part> {
-    for (i, j, n, part) in FIXED {
-        if !same(piece(stored, i, n), piece(ours, j, n)) {
-            return Some(part);
-        }
+// Reads the parts of fixed length, and gives the first that differs.
+fn fixed_part(stored: &mut StoredFile, ours: &[u8]) -> Result<Option<Part>, Ended> {
+    let mut first = None;
+    for (part, place) in FIXED {
+        let bytes = stored.take(place.len())?;
+        let differ = ours.get(place) != Some(bytes);
+        first = first.or(differ.then_some(part));
     }
-    None
+    Ok(first)
 }
 
 // The collected rows, a count and that many pairs, if they differ.
-fn rows_part(
-    input: Stdin,
-    buf: &mut [u8],
-    rows: &[u8],
-    count: usize,
-) -> Result<Option<Part>, Ended> {
-    let n = sheet::pair_at(take(input, buf, 2)?, 0) as usize;
-    let stored = take(input, buf, 2 * n)?;
-    let differ = n != count || !same(Some(stored), rows.get(..2 * n));
+fn rows_part(stored: &mut StoredFile, rows: &[u8]) -> Result<Option<Part>, Ended> {
+    let n = sheet::pair_at(stored.take(2)?, 0) as usize;
+    let differ = stored.take(2 * n)? != rows;
     Ok(differ.then_some(Part::Rows))
 }
 
-// The records, a count of at most rules::size::PAGE and that many times eight bytes, if they differ.
-fn records_part(input: Stdin, buf: &mut [u8], ours: &[u8]) -> Result<Option<Part>, Ended> {
-    let n = long_at(take(input, buf, 4)?, 0);
+// The records, a count of at most rules::size::PAGE and that many, if they differ.
+fn records_part(stored: &mut StoredFile, ours: &[u8]) -> Result<Option<Part>, Ended> {
+    let n = stored.number()?;
     if n > PAGE as u32 {
         return Err(Ended);
     }
-    let bytes = 8 * n as usize;
-    let stored = take(input, buf, bytes)?;
-    let differ = n != long_at(ours, 12) || !same(Some(stored), ours.get(ANSWER..ANSWER + bytes));
+    let bytes = RECORD * n as usize;
+    let records = stored.take(bytes)?;
+    let differ = n != long_at(ours, FOLLOWING) || ours.get(ANSWER..ANSWER + bytes) != Some(records);
     Ok(differ.then_some(Part::Records))
 }
 
 // Reads the stored answer, all of it, and gives the first part that differs.
 fn first_different(
-    input: Stdin,
-    buf: &mut [u8],
+    stored: &mut StoredFile,
     ours: &[u8],
     rows: &[u8],
-    count: usize,
 ) -> Result<Option<Part>, Ended> {
-    let fixed = fixed_part(take(input, buf, 1303)?, ours);
-    let rows = rows_part(input, buf, rows, count)?;
-    let records = records_part(input, buf, ours)?;
+    let fixed = fixed_part(stored, ours)?;
+    let rows = rows_part(stored, rows)?;
+    let records = records_part(stored, ours)?;
     Ok(fixed.or(rows).or(records))
 }
 
 // ## All of them
 
-// What comes of one sheet: the part that differs, the port's verdict and its count of records.
+// What comes of one sheet: the part that differs, whether the port accepts it, and its count of records.
 #[derive(Drop)]
 struct Found {
     part: Option<Part>,
-    verdict: u8,
+    accepted: bool,
     records: u32,
 }
 
 // Reads the next sheet, asks the port about it, and compares with the stored answer, which comes next.
-fn next(input: Stdin, buf: &mut [u8]) -> Result<Found, Ended> {
-    let n = long_at(take(input, buf, 4)?, 0) as usize;
-    let sheet = take(input, buf, n)?;
+fn next(stored: &mut StoredFile) -> Result<Found, Ended> {
+    let n = stored.number()? as usize;
+    let sheet = stored.take(n)?;
     let mut ours = [0u8; port::ROOM];
-    let mut rows = [0u8; SCRATCH];
+    let mut scratch = [0u8; SCRATCH];
     port::answer(sheet, &mut ours);
-    let count = port::rows(sheet, &mut rows);
-    let part = first_different(input, buf, &ours, &rows, count)?;
+    let count = port::rows(sheet, &mut scratch);
+    let part = first_different(stored, &ours, &scratch[..2 * count])?;
     Ok(Found {
         part,
-        verdict: ours[0],
-        records: long_at(&ours, 12),
+        accepted: ours[0] == 0,
+        records: long_at(&ours, FOLLOWING),
     })
 }
 
 // Of the sheets compared: how many were accepted and refused as stored, the records of those, and how many differ in some part.
-#[derive(Drop)]
+#[derive(Default, Drop)]
 struct Tally {
     accepted: usize,
     refused: usize,
@@ -158,7 +151,7 @@ impl Tally {
         if found.part.is_some() {
             return add(&mut self.different, 1);
         }
-        if found.verdict == 0 {
+        if found.accepted {
             add(&mut self.accepted, 1);
         } else {
             add(&mut self.refused, 1);
@@ -169,14 +162,13 @@ impl Tally {
 
 // All sheets, as many as the file says. A line tells of each of the first that differ: its number, from 0, and the part. A write that fails is not told.
 fn replay(
-    input: Stdin,
+    stored: &mut StoredFile,
     mut out: Stdout,
-    buf: &mut [u8],
     count: usize,
     t: &mut Tally,
 ) -> Result<(), Ended> {
     for number in 0..count {
-        let found = next(input, buf)?;
+        let found = next(stored)?;
         if t.different < 8
             && let Some(part) = found.part
         {
@@ -188,18 +180,16 @@ fn replay(
 }
 
 fn main(rt: HostRuntime) {
-    let input = rt.stdin();
     let mut out = rt.stdout();
     let mut space = [0u8; 65536];
-    let mut t = Tally {
-        accepted: 0,
-        refused: 0,
-        records: 0,
-        different: 0,
+    let mut stored = StoredFile {
+        input: rt.stdin(),
+        buf: &mut space,
     };
-    let _ = take(input, &mut space, 4);
-    let count = long_at(&space, 0) as usize;
-    let end = replay(input, out, &mut space, count, &mut t);
+    let mut t = Tally::default();
+    let _ = stored.take(4);
+    let count = long_at(stored.buf, 0) as usize;
+    let end = replay(&mut stored, out, count, &mut t);
     let _ = write!(out, "sheets {count}, accepted as stored {}", t.accepted);
     let _ = write!(
         out,
@@ -210,7 +200,7 @@ fn main(rt: HostRuntime) {
     if end.is_err() {
         let _ = write!(out, ", input ended early");
     }
-    if take(input, &mut space, 1).is_ok() {
+    if stored.take(1).is_ok() {
         let _ = write!(out, ", bytes left over");
     }
     let _ = writeln!(out);

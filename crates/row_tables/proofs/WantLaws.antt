@@ -64,14 +64,14 @@ module _ (s w : List ℕ) where
       by (no l) = cxx-out s w x (omega arith)
 
 -- as the search through the m names says it
-module _ (w : List ℕ) (m : ℕ) where
+module _ (s w : List ℕ) (m : ℕ) where
   pub none_found : m ≡ name_count → (X : Type 0) (r : Bool)
-      → MatchBool r X (AllWithin (λ y. (s : List ℕ) → is_cxx (tabled s w) y ≡ false) (range_with_len 0 m) 0 (length (range_with_len 0 m)))
-      → not r ≡ true → (s : List ℕ) (x : ℕ) → is_cxx (tabled s w) x ≡ false
-  none_found q X true h e s x = never e
-  none_found q X false h e s x = none-all s w here x
+      → MatchBool r X (AllWithin (λ y. is_cxx (tabled s w) y ≡ false) (range_with_len 0 m) 0 (length (range_with_len 0 m)))
+      → not r ≡ true → (x : ℕ) → is_cxx (tabled s w) x ≡ false
+  none_found q X true h e x = never e
+  none_found q X false h e x = none-all s w here x
     where
       here : (y : ℕ) → y < name_count → is_cxx (tabled s w) y ≡ false
       here y l =
           let at : get_or (range_with_len 0 m) y 0 ≡ y = omega (arith, get_or-range_with_len 0 m y 0 (omega arith)) in
-          rw at at (h y 0 (omega arith) (omega (arith, length-range_with_len 0 m)) s)
+          rw at at (h y 0 (omega arith) (omega (arith, length-range_with_len 0 m)))

@@ -1,6 +1,6 @@
--- What a table says of the entries of a list of rows, and which of them it tells apart.
+-- What a table says of the entries of a list of rows, and of which of them it has something to say.
 -- Assumes nothing: these are definitions.
-use Rattle.std.specs.Prelude.{ℕ, ◌≡◌, ◌+◌, ◌*◌, ◌^◌, ◌≤◌, ◌<◌, List, Bool, not, eqb, length, get_or}
+use Rattle.std.specs.Prelude.{ℕ, ◌≡◌, ◌+◌, ◌*◌, ◌^◌, ◌≤◌, ◌<◌, List, Bool, length, get_or, Option, None, is_some}
 use Rattle.std.specs.Int.Count.{count_trailing_zeros}
 use Rattle.rules.specs.Numbers.{most_rows, most_fields}
 use Rattle.rules.specs.View.{entry}
@@ -15,9 +15,9 @@ pub record ListIn (s : List ℕ) (at n : ℕ) : Type 0 where
   pub few : n ≤ most_fields
   pub entries : (k : ℕ) → k < n → EntryIn s at k
 
--- the table says of entry k something other than x
-abbrev pub unlike_at : (s table : List ℕ) (at x k : ℕ) → Bool
-unlike_at s d at x k = not (eqb (get_or d (entry s at k) 0) x)
+-- the table has something of entry k
+abbrev pub told_at : {T : Type 0} (s : List ℕ) (table : List (Option T)) (at k : ℕ) → Bool
+told_at s d at k = is_some (get_or d (entry s at k) None)
 
 -- bit j is the lowest that is set in the word w, and without it the word is `rest`
 pub record LowestOut (w rest j : ℕ) : Type 0 where

@@ -17,8 +17,5 @@ fn is_leaf_kind(k: RowKind) -> bool
 pub fn is_leaf(s: &[u8], r: u16) -> bool
     ensures { result ≡ leaf (kind s.now r) }
 {
-    match kind(s, r) {
-        Some(k) => is_leaf_kind(k),
-        None => false,
-    }
+    kind(s, r).is_some_and(is_leaf_kind)
 }

@@ -1,4 +1,5 @@
 // Tables with an entry for each row of a sheet, each made by one pass upward, so that what is asked of a row many times is found once.
+// Where a table wants an accepted sheet, a `requires` says so, here and in the crates above: `Known` cannot, which is made while its table is still filled.
 #![tactic(auto)]
 
 pub mod faults; // what is wrong with a row that stands by value

@@ -1,33 +1,32 @@
-// What a table says of the entries of a list, and which of them it tells apart, as the bits of a word: a loop then turns for those alone, and no test in it
-// goes now one way and now the other.
+// What a table says of the entries of a list, and of which of them it has something to say, as the bits of a word: a loop then turns for those alone, and no
+// test in it goes now one way and now the other.
 ghost use Rattle.std.specs.Prelude.{◌≡◌, MatchOption, get_or};
 ghost use Rattle.std.specs.Iterator.{at_most};
 ghost use Rattle.rules.specs.View.{entry};
 ghost use Rattle.laws.specs.Word.{word_of};
-ghost use Rattle.row_tables.specs.Listed.{EntryIn, ListIn, LowestOut, unlike_at};
+ghost use Rattle.row_tables.specs.Listed.{EntryIn, ListIn, LowestOut, told_at};
 
-use crate::marks::mark;
 use rules::limit::ROWS;
 use sheet::items::entry_within;
 
 // What the table says of entry k of the list at a place.
-pub fn said(s: &[u8], table: &[u8; ROWS], at: u32, k: u16) -> u8
+pub fn said<T: Copy>(s: &[u8], table: &[T; ROWS], at: u32, k: u16) -> T
     requires { EntryIn s.now at k }
-    ensures { result ≡ get_or table.now (entry s.now at k) 0 }
+    ensures { (x : T) → result ≡ get_or table.now (entry s.now at k) x }
 {
     let row = entry_within(s, at, k) as usize;
     table[row]
 }
 
-// Of n entries: bit k is set where the table says of entry k something other than `plain`.
-pub fn unlike(s: &[u8], table: &[u8; ROWS], at: u32, n: u16, plain: u8) -> u64
+// Of n entries: bit k is set where the table has something of entry k.
+pub fn telling<T: Copy>(s: &[u8], table: &[Option<T>; ROWS], at: u32, n: u16) -> u64
     requires { ListIn s.now at n }
-    ensures { result ≡ word_of (unlike_at s.now table.now at plain) 0 n }
+    ensures { result ≡ word_of (told_at s.now table.now at) 0 n }
 {
     let mut word: u64 = 0;
     for k in (0..n).rev() {
-        let x = said(s, table, at, k);
-        word = 2 * word + mark(x != plain) as u64;
+        let told = said(s, table, at, k).is_some();
+        word = 2 * word + u64::from(told);
     }
     word
 }

@@ -5,12 +5,12 @@ ghost use Rattle.rules.specs.Kinds.{row_number};
 ghost use Rattle.rules.specs.Improper.{definite, look_name};
 ghost use Rattle.laws.specs.Kinds.{is_through};
 ghost use Rattle.laws.specs.RowSteps.{improper_kind, look_step};
-ghost use Rattle.names.specs.Known.{tabled};
+ghost use Rattle.names.specs.Known.{sheet, types};
 ghost use Rattle.row_tables.specs.Tables.{look_of, look_in, LookRows};
 
+use crate::lifetimes::is_atom;
 use crate::upward::{entry_or, upward};
-use names::known;
-use names::known::Names;
+use names::known::Known;
 use rules::limit::ROWS;
 use rules::name;
 use rules::row::RowKind;
@@ -35,17 +35,17 @@ fn definite(improper: bool) -> Look
 }
 
 // A plain name: an atom wins over a struct of its name.
-fn look_name(names: &Names, n: u16) -> Look
-    ensures { (s : List ℕ) → look_of result ≡ look_name s (tabled s names.now) n }
+fn look_name(known: &Known<'_>, n: u16) -> Look
+    ensures { look_of result ≡ look_name (sheet known.now) (types known.now) n }
 {
-    if n < name::ATOMS {
+    if is_atom(n) {
         return definite(n == name::RUST_STRING);
     }
-    if known::is_struct(names, n) {
+    if known.is_struct(n) {
         let name = n as u8;
         return Look::Name(name);
     }
-    definite(known::is_rust(names, n) | known::is_alias(names, n))
+    definite(known.is_rust(n) | known.is_alias(n))
 }
 
 // The kinds of rows that are looked through: Ref, Ptr and Array.
@@ -71,27 +71,25 @@ fn is_improper(k: RowKind) -> bool
 }
 
 // Row r, by the looks of smaller rows: Ref, Ptr and Array are looked through.
-fn look_row(s: &[u8], names: &Names, looks: &[Look; ROWS], r: u16) -> Look
-    ensures { look_of result ≡ look_step s.now (tabled s.now names.now) (look_in looks.now) r }
+fn look_row(known: &Known<'_>, looks: &[Look; ROWS], r: u16) -> Look
+    ensures { look_of result ≡ look_step (sheet known.now) (types known.now) (look_in looks.now) r }
 {
-    if rows::is(s, RowKind::Ident, r) {
-        return look_name(names, rows::row_name(s, r));
-    }
-    match rows::kind(s, r) {
-        Some(k) if is_through(k) => entry_or(looks, rows::inner(s, r), Look::Proper),
+    match rows::kind(known.s, r) {
+        Some(RowKind::Ident) => look_name(known, rows::row_name(known.s, r)),
+        Some(k) if is_through(k) => entry_or(looks, rows::inner(known.s, r), Look::Proper),
         Some(k) => definite(is_improper(k)),
         None => Look::Proper,
     }
 }
 
 // All rows, upward: rows refer to smaller rows.
-pub fn looks(s: &[u8], names: &Names) -> [Look; ROWS]
-    requires { Accepted s.now }
-    ensures { LookRows s.now (tabled s.now names.now) result }
+pub fn looks(known: &Known<'_>) -> [Look; ROWS]
+    requires { Accepted (sheet known.now) }
+    ensures { LookRows (sheet known.now) (types known.now) result }
 {
     upward(
-        items::rows(s),
+        items::rows(known.s),
         Look::Proper,
-        |looks, r| look_row(s, names, looks, r),
+        |looks, r| look_row(known, looks, r),
     )
 }

@@ -4,84 +4,84 @@ ghost use Rattle.rules.specs.Kinds.{row_number};
 ghost use Rattle.rules.specs.Format.{Accepted};
 ghost use Rattle.rules.specs.Check.{is_unsized_ident, describe_ident, describe};
 ghost use Rattle.laws.specs.RowTable.{marked};
-ghost use Rattle.laws.specs.RowSteps.{unsized_leaf, unsized_step};
-ghost use Rattle.names.specs.Known.{tabled};
-ghost use Rattle.row_tables.specs.Tables.{cxx_unsized, describe_other, UnsizedRows};
+ghost use Rattle.laws.specs.RowSteps.{unsized_step};
+ghost use Rattle.names.specs.Known.{sheet, types};
+ghost use Rattle.row_tables.specs.Tables.{cxx_unsized, describe_other, unsized_kind, UnsizedRows};
 
-use crate::marks::{mark, marked};
+use crate::marks::marked;
 use crate::upward::upward;
-use names::known;
-use names::known::Names;
+use names::known::Known;
 use rules::limit::ROWS;
 use rules::name;
 use rules::row::RowKind;
 use sheet::items::rows;
-use sheet::rows::{inner, is, kind, row_name};
+use sheet::rows::{inner, kind, row_name};
 
 // An extern C++ type, and no alias that must be trivial.
-fn is_cxx_unsized(names: &Names, n: u16) -> bool
-    ensures { (s : List ℕ) → result ≡ cxx_unsized (tabled s names.now) n }
+fn is_cxx_unsized(known: &Known<'_>, n: u16) -> bool
+    ensures { result ≡ cxx_unsized (types known.now) n }
 {
-    let trivial = known::is_alias(names, n) && known::is_required_trivial(names, n);
-    known::is_extern(names, n) && !trivial
+    let trivial = known.is_alias(n) && known.is_required_trivial(n);
+    known.is_extern(n) && !trivial
 }
 
 #[tactic(auto, unfolding(rules::specs::Check::is_unsized_ident))]
-fn is_unsized_ident(names: &Names, n: u16) -> bool
-    ensures { (s : List ℕ) → result ≡ is_unsized_ident s (tabled s names.now) n }
+fn is_unsized_ident(known: &Known<'_>, n: u16) -> bool
+    ensures { result ≡ is_unsized_ident (sheet known.now) (types known.now) n }
 {
-    n == name::CXX_STRING || is_cxx_unsized(names, n) || known::is_rust(names, n)
+    n == name::CXX_STRING || is_cxx_unsized(known, n) || known.is_rust(n)
 }
 
-// Row r, which is no array.
-fn is_unsized_leaf(s: &[u8], names: &Names, r: u16) -> bool
-    ensures { result ≡ unsized_leaf s.now (tabled s.now names.now) r }
+// The kinds that are unsized by themselves.
+fn is_unsized_kind(k: RowKind) -> bool
+    ensures { result ≡ unsized_kind (row_number k) }
 {
-    if is(s, RowKind::Ident, r) {
-        return is_unsized_ident(names, row_name(s, r));
-    }
-    is(s, RowKind::CxxVector, r) | is(s, RowKind::Fn, r) | is(s, RowKind::Void, r)
+    matches!(k, RowKind::CxxVector | RowKind::Fn | RowKind::Void)
 }
 
 // Row r, by the table of smaller rows: an array is what its element is.
-fn is_unsized_row(s: &[u8], names: &Names, table: &[u8; ROWS], r: u16) -> bool
-    ensures { result ≡ unsized_step s.now (tabled s.now names.now) (marked table.now) r }
+fn is_unsized_row(known: &Known<'_>, table: &[bool; ROWS], r: u16) -> bool
+    ensures { result ≡ unsized_step (sheet known.now) (types known.now) (marked table.now) r }
 {
-    if is(s, RowKind::Array, r) {
-        return marked(table, inner(s, r));
+    match kind(known.s, r) {
+        Some(RowKind::Array) => marked(table, inner(known.s, r)),
+        Some(RowKind::Ident) => is_unsized_ident(known, row_name(known.s, r)),
+        Some(k) => is_unsized_kind(k),
+        None => false,
     }
-    is_unsized_leaf(s, names, r)
 }
 
 // The rows that are unsized.
-pub fn unsized_rows(s: &[u8], names: &Names) -> [u8; ROWS]
-    requires { Accepted s.now }
-    ensures { UnsizedRows s.now (tabled s.now names.now) result }
+pub fn unsized_rows(known: &Known<'_>) -> [bool; ROWS]
+    requires { Accepted (sheet known.now) }
+    ensures { UnsizedRows (sheet known.now) (types known.now) result }
 {
-    upward(rows(s), 0, |table, r| {
-        mark(is_unsized_row(s, names, table, r))
-    })
+    upward(
+        rows(known.s),
+        false,
+        |table, r| is_unsized_row(known, table, r),
+    )
 }
 
-// Whether row r is unsized, as that table has it.
-pub fn is_unsized(sizes: &[u8; ROWS], r: u16) -> bool
+// Whether row r is unsized, as that table has it: `marked`, by a name that says of what.
+pub fn is_unsized(sizes: &[bool; ROWS], r: u16) -> bool
     ensures { result ≡ marked sizes.now r }
 {
     marked(sizes, r)
 }
 
-fn describe_ident(names: &Names, n: u16) -> u16
-    ensures { (s : List ℕ) → result ≡ describe_ident s (tabled s names.now) n }
+fn describe_ident(known: &Known<'_>, n: u16) -> u8
+    ensures { result ≡ describe_ident (sheet known.now) (types known.now) n }
 {
-    if known::is_struct(names, n) {
+    if known.is_struct(n) {
         1
-    } else if known::is_enum(names, n) {
+    } else if known.is_enum(n) {
         2
-    } else if known::is_alias(names, n) {
+    } else if known.is_alias(n) {
         3
-    } else if known::is_cxx(names, n) {
+    } else if known.is_cxx(n) {
         4
-    } else if known::is_rust(names, n) {
+    } else if known.is_rust(n) {
         5
     } else if n == name::CXX_STRING {
         6
@@ -92,7 +92,7 @@ fn describe_ident(names: &Names, n: u16) -> u16
     }
 }
 
-fn describe_other(k: RowKind) -> u16
+fn describe_other(k: RowKind) -> u8
     ensures { result ≡ describe_other (row_number k) }
 {
     match k {
@@ -112,14 +112,12 @@ fn describe_other(k: RowKind) -> u16
     }
 }
 
-// The branch of check.rs's `describe`, 1 to 21 in text order.
-pub fn describe(s: &[u8], names: &Names, r: u16) -> u16
-    ensures { result ≡ describe s.now (tabled s.now names.now) r }
+// The branch of check.rs's `describe`, 1 to 21 in text order: a number, as it is said of a record alone, whose detail it is.
+pub fn describe(known: &Known<'_>, r: u16) -> u8
+    ensures { result ≡ describe (sheet known.now) (types known.now) r }
 {
-    if is(s, RowKind::Ident, r) {
-        return describe_ident(names, row_name(s, r));
-    }
-    match kind(s, r) {
+    match kind(known.s, r) {
+        Some(RowKind::Ident) => describe_ident(known, row_name(known.s, r)),
         Some(k) => describe_other(k),
         None => 21,
     }

@@ -1,6 +1,7 @@
 // Tables with an entry for each row. Rows refer to smaller rows, so one pass upward makes each entry by those of smaller rows, and nothing is walked twice.
 ghost use Rattle.std.specs.Prelude.{◌≡◌, ◌≤◌};
-ghost use Rattle.row_tables.specs.Upward.{MadeUpward, entry_or};
+ghost use Rattle.laws.specs.RowTable.{entry_or};
+ghost use Rattle.row_tables.specs.Upward.{MadeUpward};
 
 use rules::limit::ROWS;
 
@@ -8,7 +9,7 @@ use rules::limit::ROWS;
 pub fn upward<T: Copy, F: Fn(&[T; ROWS], u16) -> T>(n: u16, none: T, step: F) -> [T; ROWS]
     requires few { n ≤ 1024 }
     requires goes { F.IsAlwaysCallable step }
-    ensures { MadeUpward F.Fn step n result }
+    ensures { MadeUpward F.Fn step n none result }
 {
     let mut table = [none; ROWS];
     for r in 0..n {

@@ -1,7 +1,8 @@
--- The kinds of rows and items as the code has them, and their numbers in docs/SHEET.md.
--- Assumes nothing.
-use Rattle.std.specs.Prelude.{ℕ, zero, suc, [], ◌∷◌, ◌≡◌, ◌≤◌, slice_get, Option, Some, None}
-use Rattle.std.proofs.Common.{sym, ap, arith}
+-- The kinds of rows and items as the code has them, and their numbers in docs/SHEET.md; and a row or an item that may be none.
+-- Assumes nothing: these are definitions.
+use Rattle.std.specs.Prelude.{ℕ, List, [], ◌∷◌, eqb, slice_get, Option, Some, None}
+use Rattle.rules.specs.Base.{if'◌then◌else◌}
+use Rattle.rules.specs.Numbers as numbers
 use Rattle.rules.specs.declared.row.RowKind.{RowKind}
 use Rattle.rules.specs.declared.row.RowKind.TheVariants as row
 use Rattle.rules.specs.declared.item.ItemKind.{ItemKind}
@@ -10,26 +11,24 @@ use Rattle.rules.specs.declared.item.ItemKind.TheVariants as item
 -- ## Rows
 
 abbrev pub row_number : RowKind → ℕ
-row_number row.Ident = 0
-row_number row.RustBox = 1
-row_number row.RustVec = 2
-row_number row.UniquePtr = 3
-row_number row.SharedPtr = 4
-row_number row.WeakPtr = 5
-row_number row.CxxVector = 6
-row_number row.Ref = 7
-row_number row.Ptr = 8
-row_number row.Str = 9
-row_number row.SliceRef = 10
-row_number row.Array = 11
-row_number row.Fn = 12
-row_number row.Void = 13
+row_number row.Ident = numbers.Ident
+row_number row.RustBox = numbers.RustBox
+row_number row.RustVec = numbers.RustVec
+row_number row.UniquePtr = numbers.UniquePtr
+row_number row.SharedPtr = numbers.SharedPtr
+row_number row.WeakPtr = numbers.WeakPtr
+row_number row.CxxVector = numbers.CxxVector
+row_number row.Ref = numbers.Ref
+row_number row.Ptr = numbers.Ptr
+row_number row.Str = numbers.Str
+row_number row.SliceRef = numbers.SliceRef
+row_number row.Array = numbers.Array
+row_number row.Fn = numbers.Fn
+row_number row.Void = numbers.Void
 
--- by number, from 0
-unfoldable pub row_kind : ℕ → Option RowKind
-row_kind n =
-    slice_get
-    (
+-- in the order of their numbers, from 0
+abbrev pub kinds_of_rows : List RowKind
+kinds_of_rows =
     row.Ident
     ∷ row.RustBox
     ∷ row.RustVec
@@ -45,26 +44,26 @@ row_kind n =
     ∷ row.Fn
     ∷ row.Void
     ∷ []
-    )
-    n
+
+-- the kind of a number, if it is one's
+unfoldable pub row_kind : ℕ → Option RowKind
+row_kind n = slice_get kinds_of_rows n
 
 -- ## Items
 
 abbrev pub item_number : ItemKind → ℕ
-item_number item.Include = 0
-item_number item.Struct = 1
-item_number item.Enum = 2
-item_number item.CxxType = 3
-item_number item.RustType = 4
-item_number item.CxxFunction = 5
-item_number item.RustFunction = 6
-item_number item.TypeAlias = 7
-item_number item.Impl = 8
+item_number item.Include = numbers.Include
+item_number item.Struct = numbers.Struct
+item_number item.Enum = numbers.Enum
+item_number item.CxxType = numbers.CxxType
+item_number item.RustType = numbers.RustType
+item_number item.CxxFunction = numbers.CxxFunction
+item_number item.RustFunction = numbers.RustFunction
+item_number item.TypeAlias = numbers.TypeAlias
+item_number item.Impl = numbers.Impl
 
-unfoldable pub item_kind : ℕ → Option ItemKind
-item_kind n =
-    slice_get
-    (
+abbrev pub kinds_of_items : List ItemKind
+kinds_of_items =
     item.Include
     ∷ item.Struct
     ∷ item.Enum
@@ -75,81 +74,12 @@ item_kind n =
     ∷ item.TypeAlias
     ∷ item.Impl
     ∷ []
-    )
-    n
 
--- ## Back: a number whose kind is known
+unfoldable pub item_kind : ℕ → Option ItemKind
+item_kind n = slice_get kinds_of_items n
 
-none : {A B : Type 0} {x : A} → ◌≡◌ {A = Option A} None (Some x) → B
-none e = absurd (let z : ◌≡◌ {A = ℕ} 0 1 = cc in omega arith)
+-- ## None
 
-row_number_in : Option RowKind → ℕ
-row_number_in (Some k) = row_number k
-row_number_in None = 0
-
-pub row_kind-back : (n : ℕ) {k : RowKind} → row_kind n ≡ Some k → n ≡ row_number k
-unfolding row_kind row_number_in
-row_kind-back zero e = ap row_number_in e
-row_kind-back (suc zero) e = ap row_number_in e
-row_kind-back (suc (suc zero)) e = ap row_number_in e
-row_kind-back (suc (suc (suc zero))) e = ap row_number_in e
-row_kind-back (suc (suc (suc (suc zero)))) e = ap row_number_in e
-row_kind-back (suc (suc (suc (suc (suc zero))))) e = ap row_number_in e
-row_kind-back (suc (suc (suc (suc (suc (suc zero)))))) e = ap row_number_in e
-row_kind-back (suc (suc (suc (suc (suc (suc (suc zero))))))) e = ap row_number_in e
-row_kind-back (suc (suc (suc (suc (suc (suc (suc (suc zero)))))))) e = ap row_number_in e
-row_kind-back (suc (suc (suc (suc (suc (suc (suc (suc (suc zero))))))))) e = ap row_number_in e
-row_kind-back (suc (suc (suc (suc (suc (suc (suc (suc (suc (suc zero)))))))))) e = ap row_number_in e
-row_kind-back (suc (suc (suc (suc (suc (suc (suc (suc (suc (suc (suc zero))))))))))) e = ap row_number_in e
-row_kind-back (suc (suc (suc (suc (suc (suc (suc (suc (suc (suc (suc (suc zero)))))))))))) e = ap row_number_in e
-row_kind-back (suc (suc (suc (suc (suc (suc (suc (suc (suc (suc (suc (suc (suc zero))))))))))))) e = ap row_number_in e
-row_kind-back (suc (suc (suc (suc (suc (suc (suc (suc (suc (suc (suc (suc (suc (suc n)))))))))))))) e = none e
-
-item_number_in : Option ItemKind → ℕ
-item_number_in (Some k) = item_number k
-item_number_in None = 0
-
-pub item_kind-back : (n : ℕ) {k : ItemKind} → item_kind n ≡ Some k → n ≡ item_number k
-unfolding item_kind item_number_in
-item_kind-back zero e = ap item_number_in e
-item_kind-back (suc zero) e = ap item_number_in e
-item_kind-back (suc (suc zero)) e = ap item_number_in e
-item_kind-back (suc (suc (suc zero))) e = ap item_number_in e
-item_kind-back (suc (suc (suc (suc zero)))) e = ap item_number_in e
-item_kind-back (suc (suc (suc (suc (suc zero))))) e = ap item_number_in e
-item_kind-back (suc (suc (suc (suc (suc (suc zero)))))) e = ap item_number_in e
-item_kind-back (suc (suc (suc (suc (suc (suc (suc zero))))))) e = ap item_number_in e
-item_kind-back (suc (suc (suc (suc (suc (suc (suc (suc zero)))))))) e = ap item_number_in e
-item_kind-back (suc (suc (suc (suc (suc (suc (suc (suc (suc n))))))))) e = none e
-
--- a number that is no kind's
-pub row_kind-past : (n : ℕ) → row_kind n ≡ None → 14 ≤ n
-unfolding row_kind
-row_kind-past zero e = none (sym e)
-row_kind-past (suc zero) e = none (sym e)
-row_kind-past (suc (suc zero)) e = none (sym e)
-row_kind-past (suc (suc (suc zero))) e = none (sym e)
-row_kind-past (suc (suc (suc (suc zero)))) e = none (sym e)
-row_kind-past (suc (suc (suc (suc (suc zero))))) e = none (sym e)
-row_kind-past (suc (suc (suc (suc (suc (suc zero)))))) e = none (sym e)
-row_kind-past (suc (suc (suc (suc (suc (suc (suc zero))))))) e = none (sym e)
-row_kind-past (suc (suc (suc (suc (suc (suc (suc (suc zero)))))))) e = none (sym e)
-row_kind-past (suc (suc (suc (suc (suc (suc (suc (suc (suc zero))))))))) e = none (sym e)
-row_kind-past (suc (suc (suc (suc (suc (suc (suc (suc (suc (suc zero)))))))))) e = none (sym e)
-row_kind-past (suc (suc (suc (suc (suc (suc (suc (suc (suc (suc (suc zero))))))))))) e = none (sym e)
-row_kind-past (suc (suc (suc (suc (suc (suc (suc (suc (suc (suc (suc (suc zero)))))))))))) e = none (sym e)
-row_kind-past (suc (suc (suc (suc (suc (suc (suc (suc (suc (suc (suc (suc (suc zero))))))))))))) e = none (sym e)
-row_kind-past (suc (suc (suc (suc (suc (suc (suc (suc (suc (suc (suc (suc (suc (suc n)))))))))))))) e = omega arith
-
-pub item_kind-past : (n : ℕ) → item_kind n ≡ None → 9 ≤ n
-unfolding item_kind
-item_kind-past zero e = none (sym e)
-item_kind-past (suc zero) e = none (sym e)
-item_kind-past (suc (suc zero)) e = none (sym e)
-item_kind-past (suc (suc (suc zero))) e = none (sym e)
-item_kind-past (suc (suc (suc (suc zero)))) e = none (sym e)
-item_kind-past (suc (suc (suc (suc (suc zero))))) e = none (sym e)
-item_kind-past (suc (suc (suc (suc (suc (suc zero)))))) e = none (sym e)
-item_kind-past (suc (suc (suc (suc (suc (suc (suc zero))))))) e = none (sym e)
-item_kind-past (suc (suc (suc (suc (suc (suc (suc (suc zero)))))))) e = none (sym e)
-item_kind-past (suc (suc (suc (suc (suc (suc (suc (suc (suc n))))))))) e = omega arith
+-- a number, unless it is the one that means none
+unfoldable pub some_unless : (none n : ℕ) → Option ℕ
+some_unless none n = if' eqb n none then None else Some n

@@ -1,4 +1,4 @@
-// The derives with a rule, and the lifetime with one: docs/SHEET.md.
+// The derives with a rule, and the lifetime with one: docs/SHEET.md. They are numbers, as typecheck's derives say why.
 pub const DEFAULT: u16 = 3;
 
 pub const BIT_AND: u16 = 11;

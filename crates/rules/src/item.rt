@@ -18,7 +18,7 @@ pub enum ItemKind {
 }
 
 impl ItemKind {
-    // The kind of a number, if it is one's.
+    // The kind of a number, if it is one's. `TryFrom` would have an error to name, which says no more than `None`.
     #[tactic(auto, unfolding(crate::specs::Kinds::item_kind))]
     pub fn from_number(n: u16) -> Option<ItemKind>
         ensures { result ≡ item_kind n }
@@ -67,5 +67,5 @@ impl ItemKind {
 // How many kinds there are.
 pub const KINDS: u16 = 9;
 
-// No item, where one may be.
-pub const NONE: u8 = 255;
+// No item, where one may be: no item's number.
+pub const NONE: u16 = 255;

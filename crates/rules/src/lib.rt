@@ -1,5 +1,5 @@
-// The types that a bridge sheet's answer is made of, and the numbers that have a name. What each value means is said in specs/; the only functions are
-// those from a kind to its number and back.
+// The types that a bridge sheet's answer is made of, and the numbers that have a name. What each value means is said in specs/; the only functions ask
+// a kind or a fault of its number, a number of its kind, and kinds whether they are of those that go together.
 #![tactic(auto)]
 
 ghost use Rattle.std.specs.Prelude.{◌≡◌};
@@ -47,8 +47,8 @@ pub type Step = Result<usize, Refusal>;
 // What the whole sheet comes to: it is accepted, or refused.
 pub type Verdict = Result<(), Refusal>;
 
-// The subject of a diagnostic, by the letters of docs/SHEET.md: row; row and argument; item; item and field; item and argument; item's return; item
-// and derive; item and lifetime.
+// The subject of a diagnostic, an enum as docs/DECISIONS.md has the form, by the letters of docs/SHEET.md: row; row and argument; item; item and field;
+// item and argument; item's return; item and derive; item and lifetime.
 #[derive(Clone, Copy)]
 pub enum Place {
     R(u16),
@@ -74,7 +74,7 @@ pub struct NameSet {
     pub words: [u64; 4],
 }
 
-// What one call answers.
+// What one call answers. Its fields are those of docs/DECISIONS.md: beside a refusal all are empty, and lists and sets have their sizes beside them.
 #[derive(Clone, Copy)]
 pub struct Answer {
     pub verdict: Verdict,

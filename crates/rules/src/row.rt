@@ -22,7 +22,7 @@ pub enum RowKind {
 }
 
 impl RowKind {
-    // The kind of a number, if it is one's.
+    // The kind of a number, if it is one's: an option, as of items.
     #[tactic(auto, unfolding(crate::specs::Kinds::row_kind))]
     pub fn from_number(n: u16) -> Option<RowKind>
         ensures { result ≡ row_kind n }
@@ -56,5 +56,5 @@ impl RowKind {
 // How many kinds there are.
 pub const KINDS: u16 = 14;
 
-// No row, where a return may be.
+// No row, where a return may be: what stands in a sheet's bytes. Past the reader it is `None`.
 pub const NONE: u16 = 65535;

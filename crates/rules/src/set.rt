@@ -1,4 +1,4 @@
-// The sets of names, by their places in an answer: docs/RULES.md.
+// The sets of names, by their places in an answer: docs/RULES.md. Numbers and no enum: they are used as places in its arrays alone.
 pub const STRUCTS: usize = 0;
 
 pub const ENUMS: usize = 1;

@@ -119,7 +119,7 @@ module _ (b : List ℕ) (n r : ℕ) (l : marks_end ≤ length b) (n< : n < most_
         kept = λ i g. noted_other d i (λ t. omega arith) ∙ stored_other i (λ t. omega arith) (λ t. omega arith);
       }
 
--- ## What `add` does
+-- ## What `Rows::push` does
 
 module _ {b : List ℕ} {n r : ℕ} (h : Addable b n r) where
   pub add-room : n < most_rows

@@ -5,7 +5,7 @@ ghost use Rattle.std.specs.Prelude.{◌≡◌, [], ◌∷◌, ◌++◌, ◌*◌,
 ghost use Rattle.rules.specs.Numbers.{most_rows, scratch_size};
 ghost use Rattle.rules.specs.Format.{pair_at};
 ghost use Rattle.rules.specs.Answer.{cleared};
-ghost use Rattle.scratch.specs.Bytes.{marks_end, rows_of, marked, with_row, with_mark, Grown, Addable};
+ghost use Rattle.scratch.specs.Bytes.{marks_end, marked, with_row, with_mark, Addable};
 
 use rules::size;
 
@@ -20,23 +20,54 @@ pub fn clear(scratch: &mut [u8])
     scratch[..size::SCRATCH].fill(0);
 }
 
-// Row k of the collected ones.
-pub fn row_at(scratch: &[u8], k: usize) -> u16
-    ensures { result ≡ pair_at scratch.now (2 * k) }
-{
-    if scratch.len() <= k {
-        return 0;
-    }
-    sheet::pair_at(scratch, 2 * k)
+// The collected rows, lent to be read: so many stand in the scratch. It is the whole scratch with a count, and no slice of pairs, since what is known of
+// it is what collecting left.
+#[derive(Clone, Copy)]
+pub struct Collected<'a> {
+    pub scratch: &'a [u8],
+    pub count: usize,
 }
 
-// Whether row r is marked.
-pub fn seen(scratch: &[u8], r: u16) -> bool
-    requires { (r < most_rows) × (marks_end ≤ length scratch.now) }
-    ensures { result ≡ marked scratch.now r }
-{
-    let at = MARKS + (r as usize) / 8;
-    (scratch[at] >> (r % 8)) % 2 == 1
+impl Collected<'_> {
+    // Row k of them. The test comes first so that twice k is no sum that wraps.
+    pub fn row(&self, k: usize) -> u16
+        ensures { result ≡ pair_at self.now.scratch.now (2 * k) }
+    {
+        if self.scratch.len() <= k {
+            return 0;
+        }
+        sheet::pair_at(self.scratch, 2 * k)
+    }
+}
+
+// The collected rows: the scratch in which they stand, and how many there are.
+#[derive(Drop)]
+pub struct Rows<'a> {
+    pub scratch: &'a mut [u8],
+    pub count: usize,
+}
+
+impl Rows<'_> {
+    ghost use Rattle.scratch.specs.Collecting.{collected, Grows};
+
+    // Whether row r is marked.
+    pub fn seen(&self, r: u16) -> bool
+        requires { (r < most_rows) × (marks_end ≤ length self.now.scratch.now) }
+        ensures { result ≡ marked self.now.scratch.now r }
+    {
+        let at = MARKS + (r as usize) / 8;
+        (self.scratch[at] >> (r % 8)) % 2 == 1
+    }
+
+    // Row r, which was not seen, becomes the last of them.
+    pub fn push(&mut self, r: u16)
+        requires { Addable self.old.scratch.now self.old.count r }
+        ensures { Grows self.old (collected self.old ++ r ∷ []) self.new }
+    {
+        put(self.scratch, self.count, r);
+        mark(self.scratch, r);
+        self.count += 1;
+    }
 }
 
 // Marks row r.
@@ -57,14 +88,4 @@ fn put(scratch: &mut [u8], n: usize, r: u16)
     let [low, high] = r.to_le_bytes();
     scratch[at] = low;
     scratch[at + 1] = high;
-}
-
-// Row r, which was not seen, becomes row n of the collected ones.
-pub fn add(scratch: &mut [u8], n: usize, r: u16) -> usize
-    requires { Addable scratch.old n r }
-    ensures { Grown scratch.old scratch.new result (rows_of scratch.old n ++ r ∷ []) }
-{
-    put(scratch, n, r);
-    mark(scratch, r);
-    n + 1
 }

@@ -1,4 +1,4 @@
--- What the accessors ask: a pair at the end, and the two branches of `inner` and of `lifetimes_place`.
+-- What the accessors ask: a pair at the end, the two branches of `inner` and of `lifetimes_place`, and tests of an item's kind.
 -- Assumes nothing.
 use Prim.Native.Nat.{ℕ, ◌+◌, ◌≤◌, ◌<◌}
 use mathlib.Core.Path.{◌≡◌, sym, ap, ◌∙◌}
@@ -9,8 +9,10 @@ use lib.ListN.{length, get_or, get_or-eq_default}
 use lib.Dec.{leb}
 use borrow.Author.Tests.{le-leb, lt-leb, leb-false}
 use Rattle.std.specs.Prelude.{Option, Some, None}
+use Rattle.std.specs.Option.{MatchOption}
 use Rattle.rules.specs.declared.item.ItemKind.{ItemKind}
-use Rattle.rules.specs.Kinds.{item_kind, item_number, item_kind-back, item_kind-past}
+use Rattle.rules.specs.Kinds.{item_kind, item_number}
+use Rattle.rules.proofs.KindLaws.{item_kind-back, item_kind-past}
 use Rattle.rules.specs.Base.{if'◌then◌else◌}
 use Rattle.rules.specs.Format.{pair_at, offset}
 use Rattle.rules.specs.View.{kind, inner, item_place, is_type, lifetimes_place}
@@ -40,11 +42,17 @@ module _ (s : List ℕ) (i : ℕ) {o : ℕ} {b : Bool} (eo : o ≡ item_place s 
   unfolding lifetimes_place if'◌then◌else◌
   place_other h = rw (← eb, h, eo)
 
--- ## A test of an item's kind, by whether its number is a kind's
+-- a test of an item's kind, by whether its number is a kind's; of a kind the test gives what P says
+pub kind_passes :
+    (test : ℕ → Bool) (n : ℕ) (o : Option ItemKind) (x : Bool) (P : ItemKind → Type 0) → o ≡ item_kind n → MatchOption o (x ≡ false) P
+    → ((k : ItemKind) → P k → x ≡ test (item_number k)) → ((k : ℕ) → 9 ≤ k → test k ≡ false) → x ≡ test n
+kind_passes test n None x P e h some none = h ∙ sym (none n (item_kind-past n (sym e)))
+kind_passes test n (Some k) x P e h some none = some k h ∙ ap test (sym (item_kind-back n (sym e)))
 
-module _ (test : ℕ → Bool) {n : ℕ} {o : Option ItemKind} (e : o ≡ item_kind n) where
-  pub kind_passes : {k : ItemKind} {x : Bool} → o ≡ Some k → x ≡ test (item_number k) → x ≡ test n
-  kind_passes h q = q ∙ ap test (sym (item_kind-back n (sym e ∙ h)))
+-- ## What the check may use by itself
 
-  pub kind_none : {x : Bool} → o ≡ None → ((k : ℕ) → 9 ≤ k → x ≡ test k) → x ≡ test n
-  kind_none h past = past n (item_kind-past n (sym e ∙ h))
+pub ruleset cutting = (pair-cut)
+
+pub ruleset inside = (inner-near, inner-far)
+
+pub ruleset placing = (place-type, place_other)

@@ -1,10 +1,10 @@
 -- What the test for an equal row finds out: bytes compared one by one, rows compared one by one, and that equal rows have equal keys, so that a row whose
--- key no earlier row has is fresh. At the end what `all_rows` keeps.
+-- key no earlier row has is fresh. Then what is kept of the rows, and what `fresh` finds out.
 -- Assumes nothing.
 use Prim.Native.Nat.{ℕ, zero, suc, ◌+◌, ◌-◌, ◌*◌, ◌≤◌, ◌<◌, ◌/◌, ◌%◌}
 use mathlib.Core.Path.{◌≡◌, refl, sym, ap, ◌∙◌}
 use mathlib.Core.List.{List}
-use mathlib.Core.Bool.{Bool, true, false, ◌&&◌}
+use mathlib.Core.Bool.{Bool, true, false, not, ◌&&◌}
 use native.Mathlib.Omega.{arith}
 use native.Mathlib.Decide.{ℕ_discrete}
 use lib.ListN.{length, get_or, set}
@@ -12,13 +12,18 @@ use lib.Seq.{get_or-set_same, get_or-set_other}
 use lib.Bits.{bit_or}
 use lib.Dec.{eqb}
 use borrow.Author.Tests.{eqb-true, eq-eqb, ne_eqb}
+use Rattle.std.proofs.lemmas.List.FromFn.{length-range_with_len, get_or-range_with_len}
 use Rattle.std.proofs.lemmas.Nat.{or_comm, or_shifted}
 use Rattle.rules.specs.declared.Refusal.{Refusal}
 use Rattle.rules.specs.declared.Fault.TheVariants.{Misplaced, EqualRow}
 use Rattle.std.specs.Prelude.{Ok, Err}
 use Rattle.rules.specs.Format.{Step, refusal, check, after, pair_at, offset, same_bytes, equal_rows, fresh, row_at, row}
-use Rattle.std.specs.List.{list_all, range_with_len}
-use Rattle.sheet.specs.Keys.{mix, key, row_key, KeyHeld, Kept, Sought, placed}
+use Rattle.std.specs.Bool.{MatchBool}
+use Rattle.std.specs.List.{list_all, range_with_len, HoldsAt, AllWithin}
+use Rattle.sheet.specs.declared.fresh_rows.TheConstants.{SEEN}
+use Rattle.sheet.specs.declared.fresh_rows.Keys.{Keys}
+use Rattle.sheet.specs.declared.fresh_rows.KeptKeys.{KeptKeys}
+use Rattle.sheet.specs.Keys.{mix, key, row_key, TwoKeys, KeyHeld, Kept, placed}
 
 -- bytes compared place by place
 module _ (s : List ℕ) (a b : ℕ) where
@@ -78,6 +83,24 @@ module _ (s : List ℕ) (r next : ℕ) where
       go true q ih = rw (q, fresh) refl
       go false q ih = let ne : (i ≡ j → ⊥) = apart q in rw (q, fresh) (ih (omega arith))
 
+-- what a search of the first n rows finds
+pub fresh_any :
+    (s : List ℕ) (r next n : ℕ) (found : Bool)
+    → MatchBool found
+    ((k : ℕ) × (k < length (range_with_len 0 n)) × HoldsAt (λ i. equal_rows s i r next ≡ true) (range_with_len 0 n) k)
+    (AllWithin (λ i. i < n → equal_rows s i r next ≡ false) (range_with_len 0 n) 0 (length (range_with_len 0 n)))
+    → not found ≡ fresh s n r next
+fresh_any s r next n true h =
+    let l : h.0 < n = omega (arith, h.1, length-range_with_len 0 n) in
+    let at : get_or (range_with_len 0 n) h.0 0 ≡ h.0 = omega (arith, get_or-range_with_len 0 n h.0 0 l) in
+    fresh-found s r next n h.0 l (rw at at (h.2 0))
+fresh_any s r next n false h = fresh-none s r next n here
+  where
+    here : (i : ℕ) → i < n → equal_rows s i r next ≡ false
+    here i l =
+        let at : get_or (range_with_len 0 n) i 0 ≡ i = omega (arith, get_or-range_with_len 0 n i 0 l) in
+        rw at at (h i 0 (omega arith) (omega (arith, length-range_with_len 0 n))) l
+
 -- a test that holds, and what it leads to
 tested : (b : Bool) (x : Bool) → elim b as (λ _. Bool) [ true ↦ x | false ↦ false ] ≡ true → (b ≡ true) × (x ≡ true)
 tested true x h = (refl, h)
@@ -126,12 +149,6 @@ module _ (s : List ℕ) (n a : ℕ) where
   abbrev pub key-from : (j k : ℕ) → ℕ
   key-from j k = key s (n - 2 * j) (a + 2 * j) k
 
-  pub key-start : (k : ℕ) → key s n a k ≡ key-from 0 k
-  key-start k =
-      let en : n ≡ n - 2 * 0 = omega arith in
-      let ea : a ≡ a + 2 * 0 = omega arith in
-      ap (λ (m : ℕ). key s m a k) en ∙ ap (λ (i : ℕ). key s (n - 2 * 0) i k) ea
-
   key-pair : (left i k : ℕ) → 2 ≤ left → key s left i k ≡ key s (left - 2) (i + 2) (mix k (pair_at s i))
   unfolding key
   key-pair zero i k l = absurd (omega arith)
@@ -163,15 +180,27 @@ module _ (s : List ℕ) (r : ℕ) where
       by (no q) = get_or-set_other keys r i k 0 q ∙ h i (omega arith)
 
   marked_more :
-      (seen : List ℕ) {k : ℕ} → ((i : ℕ) → i < r → get_or seen (row_key s 0 i % 16384) 0 ≡ 1) → row_key s 0 r ≡ k → k % 16384 < length seen
-      → (i : ℕ) → i < r + 1 → get_or (set seen (k % 16384) 1) (row_key s 0 i % 16384) 0 ≡ 1
-  marked_more seen {k} h e ls i l = by (ℕ_discrete (row_key s 0 i % 16384) (k % 16384))
+      (seen : List Bool) {k : ℕ} → ((i : ℕ) → i < r → get_or seen (row_key s 0 i % SEEN) false ≡ true) → row_key s 0 r ≡ k → k % SEEN < length seen
+      → (i : ℕ) → i < r + 1 → get_or (set seen (k % SEEN) true) (row_key s 0 i % SEEN) false ≡ true
+  marked_more seen {k} h e ls i l = by (ℕ_discrete (row_key s 0 i % SEEN) (k % SEEN))
     where
-      by : Dec (row_key s 0 i % 16384 ≡ k % 16384) → get_or (set seen (k % 16384) 1) (row_key s 0 i % 16384) 0 ≡ 1
-      by (yes q) = rw q (get_or-set_same seen (k % 16384) 1 0 ls)
+      by : Dec (row_key s 0 i % SEEN ≡ k % SEEN) → get_or (set seen (k % SEEN) true) (row_key s 0 i % SEEN) false ≡ true
+      by (yes q) = rw q (get_or-set_same seen (k % SEEN) true false ls)
       by (no q) =
-          let z : (i ≡ r → ⊥) = λ (w : i ≡ r). q (rw w (ap (λ (m : ℕ). m % 16384) e)) in
-          get_or-set_other seen (k % 16384) (row_key s 0 i % 16384) 1 0 q ∙ h i (omega arith)
+          let z : (i ≡ r → ⊥) = λ (w : i ≡ r). q (rw w (ap (λ (m : ℕ). m % SEEN) e)) in
+          get_or-set_other seen (k % SEEN) (row_key s 0 i % SEEN) true false q ∙ h i (omega arith)
+
+  pub kept_more :
+      (keys : KeptKeys) (two : Keys) → r < length keys.first → r < length keys.second → length keys.seen ≡ SEEN → r < 1024 → Kept s keys r
+      → TwoKeys s (offset s r) (offset s (r + 1)) two
+      → Kept s (record { first = set keys.first r two.first; second = set keys.second r two.second; seen = set keys.seen (two.first % SEEN) true }) (r + 1)
+  unfolding row_key
+  kept_more keys two lf ls lm l kept own = record {
+    few = omega arith;
+    held = held_more keys.first 0 kept.held (sym own.low) lf;
+    held2 = held_more keys.second 11400714819323198485 kept.held2 (sym own.high) ls;
+    marked = marked_more keys.seen kept.marked (sym own.low) (omega arith);
+  }
 
 -- `mix` does not wrap
 pub low_half : (k : ℕ) → k % 4294967296 < 4294967296
@@ -228,31 +257,18 @@ module _ (s : List ℕ) (r at : ℕ) {x : Step} (e : x ≡ placed s r at) where
     row_seen t = sym (rw (q, sym ef ∙ t) at all_of)
 
 -- what `fresh` finds out
-module _ (s keys more : List ℕ) (r k m next : ℕ) (sought : Sought s keys more r k m next) where
-  pub fresh_unmarked : (seen : List ℕ) → Kept s keys more seen r → get_or seen (k % 16384) 0 ≡ 0 → true ≡ fresh s r r next
-  fresh_unmarked seen kept z =
-      fresh-keys s r next 0 r sought.own (λ i l q. let m : get_or seen (k % 16384) 0 ≡ 1 = rw q at (kept.marked i l) in omega arith)
+module _ (s : List ℕ) (keys : KeptKeys) (r : ℕ) (two : Keys) (next : ℕ) (kept : Kept s keys r) (own : TwoKeys s (offset s r) next two) where
+  pub fresh_unmarked : get_or keys.seen (two.first % SEEN) false ≡ false → true ≡ fresh s r r next
+  fresh_unmarked z = fresh-keys s r next 0 r own.low
+      (λ i l q. let m : get_or keys.seen (two.first % SEEN) false ≡ true = rw q at (kept.marked i l) in let w : true ≡ false = sym m ∙ z in cc)
 
-  pub fresh-unheld : {n : ℕ} → (n ≡ 0 → (i : ℕ) → i < r → get_or keys i 0 ≡ k → ⊥) → n ≡ 0 → true ≡ fresh s r r next
-  fresh-unheld h z = fresh-keys s r next 0 r sought.own (λ i l q. h z i l (sought.others i l ∙ q))
+  pub fresh-unheld : {n : ℕ} → (n ≡ 0 → (i : ℕ) → i < r → get_or keys.first i 0 ≡ two.first → ⊥) → n ≡ 0 → true ≡ fresh s r r next
+  fresh-unheld h z = fresh-keys s r next 0 r own.low (λ i l q. h z i l (kept.held i l ∙ q))
 
--- a turn of `rows`: row r stands at here and ends at p, and has the keys k and m
-module _
-    (s keys more seen : List ℕ) (r k m here p : ℕ) (inv : offset s r ≡ here → Kept s keys more seen r) (e : offset s r ≡ here)
-    (ek : k ≡ key s (p - here) here 0) (em : m ≡ key s (p - here) here 11400714819323198485)
-  where
-    pub sought : r ≤ 1024 → Sought s keys more r k m p
-    sought l = record { few = l; own = rw e ek; own2 = rw e em; others = (inv e).held; others2 = (inv e).held2 }
+-- the keys of a row, by other names of its ends
+pub own_keys : (s : List ℕ) (a end : ℕ) (two : Keys) {a' end' : ℕ} → TwoKeys s a end two → a' ≡ a → end' ≡ end → TwoKeys s a' end' two
+own_keys s a end two own ea ee = record { low = rw (ea, ee) own.low; high = rw (ea, ee) own.high }
 
-    pub kept_again :
-        r < length keys → r < length more → length seen ≡ 16384 → offset s (r + 1) ≡ p
-        → Kept s (set keys r k) (set more r m) (set seen (k % 16384) 1) (r + 1)
-    unfolding row_key
-    kept_again lk lm ls ep =
-        let own : row_key s 0 r ≡ k = rw (e, ep) (sym ek) in
-        let own2 : row_key s 11400714819323198485 r ≡ m = rw (e, ep) (sym em) in
-        record {
-          held = held_more s r keys 0 (inv e).held own lk;
-          held2 = held_more s r more 11400714819323198485 (inv e).held2 own2 lm;
-          marked = marked_more s r seen (inv e).marked own (omega arith);
-        }
+pub ruleset comparing = (rows_alike, rows-unlike)
+
+pub ruleset placing = (placed_off, placed_on)

@@ -68,3 +68,5 @@ module _ (n : ℕ) (s : List ℕ) where
   pub scratch-fine : {x : Step} → scratch_size ≤ n → x ≡ read s → x ≡ read_with n s
   unfolding read_with
   scratch-fine h e = simp (le-leb _ _ h) e
+
+pub ruleset scratching = (scratch-short, scratch-fine)

@@ -81,3 +81,7 @@ module _ (P : ℕ → ℕ → Step) (whole : Step) (n i here : ℕ) (h : whole �
   pub each-end : n ≤ i → Ok here ≡ whole
   unfolding each
   each-end l = let q : n - i ≡ 0 = omega arith in sym (rw q at h)
+
+pub ruleset choosing = (or-none-none, or-none-row)
+
+pub ruleset limiting = (pair_fits, limited-cut, limited-next, limited-bad)

@@ -1,8 +1,11 @@
 -- Keys of rows, which only the proof of the reader needs. Equal rows have equal keys (proofs/FreshLaws.antt), so a row whose key no earlier row has equals
 -- none of them. Which numbers the keys are is of no importance to that: `mix` is as good as any other function.
 -- Assumes nothing: these are definitions.
-use Rattle.std.specs.Prelude.{ℕ, zero, suc, ◌+◌, ◌-◌, ◌*◌, ◌/◌, ◌%◌, ◌<◌, ◌≤◌, ◌≡◌, List, get_or, eqb}
+use Rattle.std.specs.Prelude.{ℕ, zero, suc, ◌+◌, ◌-◌, ◌*◌, ◌/◌, ◌%◌, ◌<◌, ◌≤◌, ◌≡◌, List, get_or, eqb, true, false}
 use Rattle.rules.specs.declared.Fault.TheVariants.{Misplaced}
+use Rattle.sheet.specs.declared.fresh_rows.TheConstants.{SEEN}
+use Rattle.sheet.specs.declared.fresh_rows.Keys.{Keys}
+use Rattle.sheet.specs.declared.fresh_rows.KeptKeys.{KeptKeys}
 use Rattle.rules.specs.Format.{Step, after, check, pair_at, offset, row}
 
 -- a number turned by 18 bits of 64
@@ -20,9 +23,9 @@ module _ (s : List ℕ) where
   key (suc (suc n)) a k = key n (a + 2) (mix k (pair_at s a))
 
   -- a row from a to end has these two keys, from two seeds
-  pub record TwoKeys (a end first second : ℕ) : Type 0 where
-    pub low : first ≡ key (end - a) a 0
-    pub high : second ≡ key (end - a) a 11400714819323198485
+  pub record TwoKeys (a end : ℕ) (two : Keys) : Type 0 where
+    pub low : two.first ≡ key (end - a) a 0
+    pub high : two.second ≡ key (end - a) a 11400714819323198485
 
   -- the key of row i, from a seed
   unfoldable pub row_key : (seed i : ℕ) → ℕ
@@ -33,18 +36,11 @@ module _ (s : List ℕ) where
   KeyHeld seed keys r = (i : ℕ) → i < r → get_or keys i 0 ≡ row_key seed i
 
   -- what is kept of the first r rows: their keys from two seeds, and a mark for the low bits of each first key
-  pub record Kept (keys more seen : List ℕ) (r : ℕ) : Type 0 where
-    pub held : KeyHeld 0 keys r
-    pub held2 : KeyHeld 11400714819323198485 more r
-    pub marked : (i : ℕ) → i < r → get_or seen (row_key 0 i % 16384) 0 ≡ 1
-
-  -- row r, which ends at next, has the keys k and m, and the rows before it those kept
-  pub record Sought (keys more : List ℕ) (r k m next : ℕ) : Type 0 where
+  pub record Kept (keys : KeptKeys) (r : ℕ) : Type 0 where
     pub few : r ≤ 1024
-    pub own : k ≡ key (next - offset s r) (offset s r) 0
-    pub own2 : m ≡ key (next - offset s r) (offset s r) 11400714819323198485
-    pub others : KeyHeld 0 keys r
-    pub others2 : KeyHeld 11400714819323198485 more r
+    pub held : KeyHeld 0 keys.first r
+    pub held2 : KeyHeld 11400714819323198485 keys.second r
+    pub marked : (i : ℕ) → i < r → get_or keys.seen (row_key 0 i % SEEN) false ≡ true
 
   -- row r with its offset
   unfoldable pub placed : (r at : ℕ) → Step

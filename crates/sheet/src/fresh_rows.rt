@@ -1,7 +1,7 @@
 // Whether a row equals one before it. Equal rows have equal keys, so the bytes of two rows are compared only where both their keys agree.
-ghost use Rattle.std.specs.Prelude.{◌≡◌, get_or, ℕ, ◌-◌, ◌<◌, ◌≤◌};
-ghost use Rattle.rules.specs.Format.{same_bytes, equal_rows, fresh};
-ghost use Rattle.sheet.specs.Keys.{mix, key, Kept, Sought, TwoKeys};
+ghost use Rattle.std.specs.Prelude.{◌≡◌, get_or, ℕ, ◌<◌, ◌≤◌};
+ghost use Rattle.rules.specs.Format.{same_bytes, equal_rows};
+ghost use Rattle.sheet.specs.Keys.{mix, TwoKeys};
 
 use crate::{byte_at, offset, pair_at};
 use rules::limit;
@@ -15,6 +15,7 @@ fn same_bytes(s: &[u8], n: usize, a: u16, b: u16) -> bool
 }
 
 // Whether row i equals row r, which ends at next.
+#[tactic(auto, using(crate::proofs::FreshLaws::comparing))]
 fn equal_rows(s: &[u8], i: u16, r: u16, next: usize) -> bool
     ensures { result ≡ equal_rows s.now i r next }
 {
@@ -41,7 +42,7 @@ pub struct Keys {
 
 // The keys of the row from a to end: of its pairs, so that equal rows have equal keys.
 pub fn keys_of(s: &[u8], a: usize, end: usize) -> Keys
-    ensures { TwoKeys s.now a end result.first result.second }
+    ensures { TwoKeys s.now a end result }
 {
     let mut two = Keys {
         first: 0,
@@ -70,43 +71,51 @@ fn hits(keys: &[u64; limit::ROWS], r: usize, k: u64) -> usize
     n
 }
 
-// Whether no row before row r, which has the keys k and m and ends at next, equals it: rows of those keys are compared.
-fn fresh_among(
-    s: &[u8],
-    keys: &[u64; limit::ROWS],
-    more: &[u64; limit::ROWS],
-    r: u16,
-    k: u64,
-    m: u64,
-    next: usize,
-) -> bool
-    requires { Sought s.now keys.now more.now r k m next }
-    ensures { result ≡ fresh s.now r r next }
-{
-    for i in 0..r {
-        if keys[i as usize] == k && more[i as usize] == m && equal_rows(s, i, r, next) {
-            return false;
-        }
-    }
-    true
+// How many marks there are.
+pub const SEEN: usize = 16384;
+
+// What is kept of the rows before one: two keys of each, by its number, and a mark for the low bits of each first key.
+#[derive(Drop)]
+pub struct KeptKeys {
+    pub first: [u64; limit::ROWS],
+    pub second: [u64; limit::ROWS],
+    pub seen: [bool; SEEN],
 }
 
-// The same, with a look first at whether any row before row r had a key like k, and then at whether any had k.
-pub fn fresh(
-    s: &[u8],
-    keys: &[u64; limit::ROWS],
-    more: &[u64; limit::ROWS],
-    seen: &[u8; 16384],
-    r: u16,
-    two: Keys,
-    next: usize,
-) -> bool
-    requires sought { Sought s.now keys.now more.now r two.first two.second next }
-    requires kept { Kept s.now keys.now more.now seen.now r }
-    ensures { result ≡ fresh s.now r r next }
-{
-    let k = two.first;
-    seen[k as usize % 16384] == 0
-        || hits(keys, r as usize, k) == 0
-        || fresh_among(s, keys, more, r, k, two.second, next)
+impl KeptKeys {
+    ghost use Rattle.std.specs.Prelude.{List, ◌+◌};
+    ghost use Rattle.rules.specs.Format.{fresh, offset};
+    ghost use Rattle.sheet.specs.Keys.{Kept};
+
+    // Whether no row before row r, which has these two keys and ends at next, equals it: rows of the same keys are compared.
+    fn fresh_among(&self, s: &[u8], r: u16, two: Keys, next: usize) -> bool
+        requires kept { Kept s.now self.now r }
+        requires own { TwoKeys s.now (offset s.now r) next two }
+        ensures { result ≡ fresh s.now r r next }
+    {
+        !(0..r).any(|i| self.first[i as usize] == two.first
+            && self.second[i as usize] == two.second
+            && equal_rows(s, i, r, next))
+    }
+
+    // The same, with a look first at whether any row before row r had a first key like this one's, and then at whether any had this one.
+    pub fn fresh(&self, s: &[u8], r: u16, two: Keys, next: usize) -> bool
+        requires kept { Kept s.now self.now r }
+        requires own { TwoKeys s.now (offset s.now r) next two }
+        ensures { result ≡ fresh s.now r r next }
+    {
+        !self.seen[two.first as usize % SEEN]
+            || hits(&self.first, r as usize, two.first) == 0
+            || self.fresh_among(s, r, two, next)
+    }
+
+    // Row r is one of the rows before, with these two keys.
+    pub fn push(&mut self, r: u16, two: Keys)
+        requires { r < 1024 }
+        ensures { (s : List ℕ) → Kept s self.old r → TwoKeys s (offset s r) (offset s (r + 1)) two → Kept s self.new (r + 1) }
+    {
+        self.first[r as usize] = two.first;
+        self.second[r as usize] = two.second;
+        self.seen[two.first as usize % SEEN] = true;
+    }
 }

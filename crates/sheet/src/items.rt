@@ -14,7 +14,6 @@ ghost use Rattle.rules.specs.View.{
   lifetimes_place,
   lifetime_count,
   derives_place,
-  derive_count,
   rest,
   field_count,
   enum_repr,
@@ -33,19 +32,22 @@ ghost use Rattle.rules.specs.View.{
 use crate::{behind, offset, pair_at, pair_within};
 use rules::item::ItemKind;
 
-// Flags 1, 2 and 4 of a sum.
+// Flags 1, 2 and 4 of a sum: a line each, named as docs/SHEET.md and the definitions name them. A constant parameter would make every call longer.
+#[tactic(auto, unfolding(rules::specs::View::flag1))]
 pub fn flag1(f: u16) -> bool
     ensures { result ≡ flag1 f }
 {
     f % 2 == 1
 }
 
+#[tactic(auto, unfolding(rules::specs::View::flag2))]
 pub fn flag2(f: u16) -> bool
     ensures { result ≡ flag2 f }
 {
     f / 2 % 2 == 1
 }
 
+#[tactic(auto, unfolding(rules::specs::View::flag4))]
 pub fn flag4(f: u16) -> bool
     ensures { result ≡ flag4 f }
 {
@@ -66,6 +68,7 @@ pub fn items(s: &[u8]) -> u16
 }
 
 // Where item i starts.
+#[tactic(auto, unfolding(rules::specs::View::item_place))]
 pub fn item_place(s: &[u8], i: u16) -> u16
     ensures { result ≡ item_place s.now i }
 {
@@ -73,6 +76,7 @@ pub fn item_place(s: &[u8], i: u16) -> u16
 }
 
 // The number that says of which kind item i is.
+#[tactic(auto, unfolding(rules::specs::View::item_kind))]
 pub fn item_kind_number(s: &[u8], i: u16) -> u16
     ensures { result ≡ item_kind s.now i }
 {
@@ -87,6 +91,7 @@ pub fn item_kind(s: &[u8], i: u16) -> Option<ItemKind>
 }
 
 // Whether item i is of kind k.
+#[tactic(auto, unfolding(rules::specs::View::item_is))]
 pub fn item_is(s: &[u8], k: ItemKind, i: u16) -> bool
     ensures { result ≡ item_is s.now (item_number k) i }
 {
@@ -97,22 +102,17 @@ pub fn item_is(s: &[u8], k: ItemKind, i: u16) -> bool
 pub fn is_function(s: &[u8], i: u16) -> bool
     ensures { result ≡ is_function s.now i }
 {
-    match item_kind(s, i) {
-        Some(k) => k.is_function(),
-        None => false,
-    }
+    item_kind(s, i).is_some_and(ItemKind::is_function)
 }
 
 pub fn is_type(s: &[u8], i: u16) -> bool
     ensures { result ≡ is_type s.now i }
 {
-    match item_kind(s, i) {
-        Some(k) => k.is_type(),
-        None => false,
-    }
+    item_kind(s, i).is_some_and(ItemKind::is_type)
 }
 
-// The name of an item of kind 1 to 7.
+// The name of an item that is no Include and no Impl.
+#[tactic(auto, unfolding(rules::specs::View::item_name))]
 pub fn item_name(s: &[u8], i: u16) -> u16
     ensures { result ≡ item_name s.now i }
 {
@@ -120,13 +120,16 @@ pub fn item_name(s: &[u8], i: u16) -> u16
 }
 
 // Entry j of the list at a place. A loop over a list reads the place once and then its entries.
+#[tactic(auto, unfolding(rules::specs::View::entry))]
 pub fn entry(s: &[u8], at: u32, j: u16) -> u16
     ensures { result ≡ entry s.now at j }
 {
     pair_at(s, at as usize + 2 + 2 * (j as usize))
 }
 
-// The same, of a list that stands in the sheet.
+// The same, of a list that stands in the sheet. Loops over a list ask it by number, in a `for` over a range: an iterator of our own would have to carry what is
+// asked here, that the list stands in the sheet, in an invariant, and would be longer than its uses.
+#[tactic(auto, unfolding(rules::specs::View::entry))]
 pub fn entry_within(s: &[u8], at: u32, j: u16) -> u16
     requires { at + 4 + 2 * j ≤ length s.now }
     ensures { result ≡ entry s.now at j }
@@ -135,6 +138,7 @@ pub fn entry_within(s: &[u8], at: u32, j: u16) -> u16
 }
 
 // The lifetimes: behind the name, or behind the name and flags of a function, or the row and flags of an impl.
+#[tactic(auto, using(crate::proofs::AccessorLaws::placing))]
 pub fn lifetimes_place(s: &[u8], i: u16) -> u32
     ensures { result ≡ lifetimes_place s.now i }
 {
@@ -142,25 +146,23 @@ pub fn lifetimes_place(s: &[u8], i: u16) -> u32
     if is_type(s, i) { at + 4 } else { at + 6 }
 }
 
+#[tactic(auto, unfolding(rules::specs::View::lifetime_count))]
 pub fn lifetime_count(s: &[u8], i: u16) -> u16
     ensures { result ≡ lifetime_count s.now i }
 {
     pair_at(s, lifetimes_place(s, i) as usize)
 }
 
-// Of kinds 1, 2, 3, 4 and 7: the derives, and the place behind them.
+// Of a Struct, Enum, CxxType, RustType or TypeAlias: where the derives stand, and the place behind them.
+#[tactic(auto, unfolding(rules::specs::View::derives_place))]
 pub fn derives_place(s: &[u8], i: u16) -> u32
     ensures { result ≡ derives_place s.now i }
 {
     behind(s, item_place(s, i) as u32 + 4)
 }
 
-pub fn derive_count(s: &[u8], i: u16) -> u16
-    ensures { result ≡ derive_count s.now i }
-{
-    pair_at(s, derives_place(s, i) as usize)
-}
-
+// The place of the derives is looked up anew: `behind` asks a bound, which is known of its own result, and which `derives_place` does not promise.
+#[tactic(auto, unfolding(rules::specs::View::rest, rules::specs::View::derives_place))]
 pub fn rest(s: &[u8], i: u16) -> u32
     ensures { result ≡ rest s.now i }
 {
@@ -169,6 +171,7 @@ pub fn rest(s: &[u8], i: u16) -> u32
 }
 
 // Of a Struct: its field rows.
+#[tactic(auto, unfolding(rules::specs::View::field_count))]
 pub fn field_count(s: &[u8], i: u16) -> u16
     ensures { result ≡ field_count s.now i }
 {
@@ -176,24 +179,28 @@ pub fn field_count(s: &[u8], i: u16) -> u16
 }
 
 // Of an Enum: its repr row, whether that was explicit, the variants, and how many of them are marked default.
+#[tactic(auto, unfolding(rules::specs::View::enum_repr))]
 pub fn enum_repr(s: &[u8], i: u16) -> u16
     ensures { result ≡ enum_repr s.now i }
 {
     pair_at(s, rest(s, i) as usize)
 }
 
+#[tactic(auto, unfolding(rules::specs::View::enum_explicit))]
 pub fn enum_explicit(s: &[u8], i: u16) -> bool
     ensures { result ≡ enum_explicit s.now i }
 {
     pair_at(s, rest(s, i) as usize + 2) == 1
 }
 
+#[tactic(auto, unfolding(rules::specs::View::enum_variants))]
 pub fn enum_variants(s: &[u8], i: u16) -> u16
     ensures { result ≡ enum_variants s.now i }
 {
     pair_at(s, rest(s, i) as usize + 4)
 }
 
+#[tactic(auto, unfolding(rules::specs::View::enum_defaults))]
 pub fn enum_defaults(s: &[u8], i: u16) -> u16
     ensures { result ≡ enum_defaults s.now i }
 {
@@ -201,12 +208,14 @@ pub fn enum_defaults(s: &[u8], i: u16) -> u16
 }
 
 // Of a CxxType or RustType.
+#[tactic(auto, unfolding(rules::specs::View::type_trusted))]
 pub fn type_trusted(s: &[u8], i: u16) -> bool
     ensures { result ≡ type_trusted s.now i }
 {
     flag1(pair_at(s, rest(s, i) as usize))
 }
 
+#[tactic(auto, unfolding(rules::specs::View::type_bounds))]
 pub fn type_bounds(s: &[u8], i: u16) -> bool
     ensures { result ≡ type_bounds s.now i }
 {
@@ -214,12 +223,14 @@ pub fn type_bounds(s: &[u8], i: u16) -> bool
 }
 
 // Of an Impl.
+#[tactic(auto, unfolding(rules::specs::View::impl_row))]
 pub fn impl_row(s: &[u8], i: u16) -> u16
     ensures { result ≡ impl_row s.now i }
 {
     pair_at(s, item_place(s, i) as usize + 2)
 }
 
+#[tactic(auto, unfolding(rules::specs::View::impl_negative))]
 pub fn impl_negative(s: &[u8], i: u16) -> bool
     ensures { result ≡ impl_negative s.now i }
 {

@@ -46,6 +46,7 @@ pub fn read(s: &[u8]) -> Step
 }
 
 // The same, with scratch of some length lent: that is asked first.
+#[tactic(auto, using(crate::proofs::ReadLaws::scratching))]
 pub fn read_with(scratch: usize, s: &[u8]) -> Step
     ensures { result ≡ read_with scratch s.now }
 {

@@ -4,7 +4,7 @@ ghost use Rattle.rules.specs.Format.{with_flags, signature, body_of, row, row_at
 ghost use Rattle.rules.specs.Kinds.{row_number};
 ghost use Rattle.sheet.specs.Keys.{placed};
 
-use crate::fresh_rows::{fresh, keys_of};
+use crate::fresh_rows::{KeptKeys, SEEN, keys_of};
 use crate::steps::{NAMES, ROW_KINDS, limited, list, or_none};
 use crate::{offset, pair_at, refusal};
 use rules::row::RowKind;
@@ -60,6 +60,7 @@ fn row(s: &[u8], r: u16, at: usize) -> Step
 }
 
 // Row r with its offset.
+#[tactic(auto, using(crate::proofs::FreshLaws::placing))]
 fn placed(s: &[u8], r: u16, at: usize) -> Step
     ensures { result ≡ placed s.now r at }
 {
@@ -69,25 +70,24 @@ fn placed(s: &[u8], r: u16, at: usize) -> Step
     row(s, r, at)
 }
 
-// The first n rows, each with its offset and the test for an equal row before it. Of the rows read so far two keys each are kept, and a mark
-// for the low bits of the first.
+// The first n rows, each with its offset and the test for an equal row before it.
 pub fn all_rows(s: &[u8], n: u16, at: usize) -> Step
     requires { n ≤ 1024 }
     ensures { result ≡ each (row_at s.now) n 0 at }
 {
-    let mut keys = [0; limit::ROWS];
-    let mut more = [0; limit::ROWS];
-    let mut seen = [0; 16384];
+    let mut keys = KeptKeys {
+        first: [0; limit::ROWS],
+        second: [0; limit::ROWS],
+        seen: [false; SEEN],
+    };
     let mut here = at;
     for r in 0..n {
         let next = placed(s, r, here)?;
         let two = keys_of(s, here, next);
-        if !fresh(s, &keys, &more, &seen, r, two, next) {
+        if !keys.fresh(s, r, two, next) {
             return refusal(Fault::EqualRow, here);
         }
-        keys[r as usize] = two.first;
-        more[r as usize] = two.second;
-        seen[two.first as usize % 16384] = 1;
+        keys.push(r, two);
         here = next;
     }
     Ok(here)

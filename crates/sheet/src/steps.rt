@@ -1,12 +1,12 @@
 // The steps that every body is read by: a pair below a limit, a row or none, a list. Each goes from a place to the place after what it read,
-// or to a refusal.
+// or to a refusal; sheet and place stay two, since a step is a function of the place, as in the definitions, and `?` hands the next one on.
 ghost use Rattle.std.specs.Prelude.{◌≡◌};
 ghost use Rattle.rules.specs.Format.{limited, or_none, list};
 
 use crate::{has_pair, pair_at, pair_within, refusal};
 use rules::{Fault, Step, derive, item, limit, name, row};
 
-// What pairs are limited by: the numbers of rules, as wide as a limit.
+// What pairs are limited by, as wide as a limit: numbers of rules, and 256, the `lifetime_name_count` of its definitions.
 pub const NAMES: u32 = name::COUNT as u32;
 
 pub const LIFETIME_NAMES: u32 = 256;
@@ -20,6 +20,7 @@ pub const DERIVE_KINDS: u32 = derive::KINDS as u32;
 pub const VARIANT_COUNTS: u32 = limit::VARIANTS as u32 + 1;
 
 // A pair below a limit, or the fault `why` at the pair.
+#[tactic(auto, using(crate::proofs::StepLaws::limiting))]
 pub fn limited(s: &[u8], why: Fault, limit: u32, at: usize) -> Step
     ensures { result ≡ limited s.now why limit at }
 {
@@ -33,6 +34,7 @@ pub fn limited(s: &[u8], why: Fault, limit: u32, at: usize) -> Step
 }
 
 // A row below a limit, or none.
+#[tactic(auto, using(crate::proofs::StepLaws::choosing))]
 pub fn or_none(s: &[u8], limit: u32, at: usize) -> Step
     ensures { result ≡ or_none s.now limit at }
 {

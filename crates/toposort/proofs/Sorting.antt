@@ -14,7 +14,8 @@ use Rattle.rules.specs.Graph.{Graph}
 use Rattle.rules.specs.Walk.{item_out, items_out, sort_out}
 use Rattle.rules.specs.Order.{graph_by, plain_lead, walk_of}
 use Rattle.laws.specs.Left.{fresh}
-use Rattle.laws.specs.RowTable.{RowTable}
+use Rattle.laws.specs.RowTable.{LeadRows}
+use Rattle.std.specs.Prelude.{Option}
 use Rattle.laws.proofs.Base.Counts.{fresh-zeros}
 use Rattle.laws.proofs.Base.Lists.{places-sets}
 use Rattle.laws.proofs.Graph.SameEdges.{table-walk}
@@ -75,8 +76,8 @@ module _ {G : Graph} (lim : Bounded G) {b : Errors} {i : ℕ} {b' : Errors} {o' 
   unfolding item_out
   sorting-struct r b'' o'' e d = on r b'' o'' (rw (e, item_out) (d 256 sorting-fresh).did)
 
-module _ {s d : List ℕ} (own : Led s d) {b : Errors} {i : ℕ} {b' : Errors} {o' : List ℕ} {v : Walk} (g : Sorting (table_graph s d) b i b' o' v)
-    (h : 255 ≤ i) where
+module _ {s : List ℕ} {d : List (Option ℕ)} (own : Led s d) {b : Errors} {i : ℕ} {b' : Errors} {o' : List ℕ} {v : Walk}
+    (g : Sorting (table_graph s d) b i b' o' v) (h : 255 ≤ i) where
   abbrev answer : Sorted
   answer = record { order = o'; len = v.len; calls = v.calls }
 
@@ -89,10 +90,10 @@ module _ {s d : List ℕ} (own : Led s d) {b : Errors} {i : ℕ} {b' : Errors} {
       record { order = p.order ∙ sym (places-sets w.sorted); len = p.len ∙ omega arith; calls = p.calls ∙ omega arith; errors = p.errors }
 
   -- the same of every function that the table holds
-  by-lead : (lead : (row : ℕ) → ℕ) → RowTable s lead d → SortsBy (sort_out (graph_by s lead) most_items) b answer b'
+  by-lead : (lead : (row : ℕ) → ℕ) → LeadRows s lead d → SortsBy (sort_out (graph_by s lead) most_items) b answer b'
   by-lead lead held = rw (table-walk s d lead held own.accepted own.table most_items) by-table
 
-  by-plain : RowTable s (plain_lead s (types_of s)) d → PlainRule s o'
+  by-plain : LeadRows s (plain_lead s (types_of s)) d → PlainRule s o'
   unfolding walk_of
   by-plain held =
       record { order = rw (by-lead (plain_lead s (types_of s)) held).order (plain-order s own.accepted); cyclic = walk-cyclic-is s own.accepted }

@@ -21,6 +21,7 @@ use Rattle.errors.specs.declared.Errors.{Errors}
 use Rattle.errors.specs.Sink.{Reported, also, silent, meant}
 use Rattle.toposort.specs.declared.Walk.{Walk}
 use Rattle.toposort.specs.State.{Did, Done, Visits, Room}
+use Rattle.toposort.proofs.Leading.{Skips, Turning}
 use Rattle.toposort.proofs.Parts.{did-still, did-join, Spends, Bounded, spends-first, room_after, room-less}
 
 -- ## One field
@@ -41,6 +42,13 @@ step-none G b o v i k e f h = rw (eq-eqb (G.to i k) 255 e, field_out) (record { 
 abbrev pub put-ok : Walk → Bool → Walk
 put-ok w x = record { marks = w.marks; len = w.len; calls = w.calls; ok = x }
 
+-- what is known of `ok` before a visit changes nothing
+pub visits-flag : (G : Graph) {b b' : Errors} {o o' : List ℕ} {v r : Walk} (i : ℕ) (x : Bool) → Visits G b o v i r b' o'
+    → Visits G b o (put-ok v x) i r b' o'
+visits-flag G i x d f h =
+    let p = (d f h).did in
+    record { did = record { marks = p.marks; order = p.order; len = p.len; calls = p.calls; errors = p.errors }; ok = (d f h).ok }
+
 -- a field whose struct was visited
 module _ (G : Graph) (b b' : Errors) (o o' : List ℕ) (v r : Walk) (i k : ℕ) (e : G.to i k ≡ 255 → ⊥) (d : Visits G b o v (G.to i k) r b' o') where
   pub step_ok : r.ok ≡ true → Steps G b o v i k (put-ok r v.ok) b' o'
@@ -55,7 +63,7 @@ module _ (G : Graph) (b b' : Errors) (o o' : List ℕ) (v r : Walk) (i k : ℕ) 
         ok = rw q (sym (and-true v.ok));
       })
 
-  pub step-bad : (b'' : Errors) → r.ok ≡ false → Reported b' (say 2 (F i k)) b'' → Steps G b o v i k r b'' o'
+  pub step-bad : (b'' : Errors) → r.ok ≡ false → Reported b' (say 2 (F i k)) b'' → Steps G b o v i k (put-ok r false) b'' o'
   unfolding field_out
   step-bad b'' t g f h =
       let a = visit_out f G v.marks (G.to i k) in
@@ -64,7 +72,7 @@ module _ (G : Graph) (b b' : Errors) (o o' : List ℕ) (v r : Walk) (i k : ℕ) 
       rw (ne_eqb (G.to i k) 255 e, field_out)
       (record {
         did = record { marks = p.marks; order = p.order; len = p.len; calls = p.calls; errors = meant (also p.errors g) (rw q) };
-        ok = rw (t, q) (sym (and-false v.ok));
+        ok = rw q (sym (and-false v.ok));
       })
 
 -- ## The fields
@@ -122,6 +130,15 @@ module _ {G : Graph} (lim : Bounded G) {b : Errors} {o : List ℕ} {i : ℕ} {v�
           let q : Stepped b' o' v (part a.marks) r b'' o'' = subst (λ (x : List ℕ). Stepped b' o' v (part x) r b'' o'') p.did.marks (d f (omega arith)) in
           rw add-one (record { did = did-join p.did q.did; ok = q.ok ∙ rw p.ok })
 
+-- a field that leads nowhere
+pub going-skips : {G : Graph} (lim : Bounded G) {b : Errors} {o : List ℕ} {i : ℕ} {v₀ : Walk} {n : ℕ} {b' : Errors} {o' : List ℕ} {v : Walk}
+    → Skips G i n (λ k. Going G b o i v₀ n k b' o' v)
+going-skips {G} lim {i = i} {b' = b'} {o'} {v} k l e g = going_on lim g v b' o' l (step-none G b' o' v i k e)
+
+-- the fields before some k are done, and the word has the others that lead to a struct
+abbrev pub Visiting : Graph → (b : Errors) (o : List ℕ) (i : ℕ) → Walk → (n left : ℕ) (b' : Errors) (o' : List ℕ) → Walk → Type 0
+Visiting G b o i v₀ n left b' o' v = (k : ℕ) × Turning G i n k left × Going G b o i v₀ n k b' o' v
+
 -- ## A visit
 
 -- of a struct that was met before
@@ -134,21 +151,13 @@ visit-seen G b o w i e (suc f) h =
     (record { did = record { marks = refl; order = refl; len = omega arith; calls = refl; errors = silent b }; ok = refl })
 
 -- a field whose struct was marked: its visit is counted, and no more is done
-module _ (G : Graph) (b : Errors) (o : List ℕ) (v : Walk) (i k : ℕ) (e : G.to i k ≡ 255 → ⊥) (x : ℕ) (q : x ≡ G.to i k) (m : get_or v.marks x 0 ≡ 0 → ⊥)
-    (n : ℕ) (y : Bool) (c : n ≡ v.calls + 1) (z : y ≡ eqb (get_or v.marks x 0) 2) where
-  -- as the code leaves the state
-  abbrev counted : Bool → Walk
-  counted a = record { marks = v.marks; len = v.len; calls = n; ok = a }
+abbrev pub counted : Walk → (calls : ℕ) → Bool → Walk
+counted w n y = record { marks = w.marks; len = w.len; calls = n; ok = y }
 
-  seen-marked : Visits G b o v (G.to i k) (counted y) b o
-  seen-marked = rw (← q, z, c) (visit-seen G b o v x m)
-
-  pub met-ok : y ≡ true → Steps G b o v i k (counted v.ok) b o
-  met-ok t = step_ok G b b o o v (counted y) i k e seen-marked t
-
-  pub met-bad : (b'' : Errors) → y ≡ false → Reported b (say 2 (F i k)) b''
-      → Steps G b o v i k (record { marks = v.marks; len = v.len; calls = n; ok = false }) b'' o
-  met-bad b'' t g = rw (← t) (step-bad G b b o o v (counted y) i k e seen-marked b'' t g)
+module _ (G : Graph) (b : Errors) (o : List ℕ) (v : Walk) (x : ℕ) (m : get_or v.marks x 0 ≡ 0 → ⊥) (n : ℕ)
+    (y : Bool) (c : n ≡ v.calls + 1) (z : y ≡ eqb (get_or v.marks x 0) 2) where
+  pub seen-marked : Visits G b o v x (counted v n y) b o
+  seen-marked = rw (z, c) (visit-seen G b o v x m)
 
 -- of a new one, as its fields begin, and as they end
 abbrev pub entered : Walk → ℕ → Walk

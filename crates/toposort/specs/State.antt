@@ -1,6 +1,6 @@
 -- What a part of the walk does to the walk's state.
 -- Assumes nothing: these are definitions.
-use Rattle.std.specs.Prelude.{ℕ, ◌+◌, ◌*◌, ◌<◌, ◌≤◌, ◌≡◌, List, length}
+use Rattle.std.specs.Prelude.{ℕ, ◌+◌, ◌*◌, ◌<◌, ◌≤◌, ◌≡◌, List, Option, length}
 use Rattle.std.proofs.lemmas.List.Edits.{sets}
 use Rattle.rules.specs.Graph.{Graph}
 use Rattle.rules.specs.Walk.{Out, visit_out}
@@ -28,7 +28,7 @@ abbrev pub Visits : Graph → (b : Errors) (o : List ℕ) → Walk → (i : ℕ)
 Visits G b o w i r b' o' = (f : ℕ) → fresh w.marks < f → Done b o w (visit_out f G w.marks i) r b' o'
 
 -- of the graph of a table
-abbrev pub VisitsBy : (s d : List ℕ) (b : Errors) (o : List ℕ) → Walk → (i : ℕ) → Walk → (b' : Errors) (o' : List ℕ) → Type 0
+abbrev pub VisitsBy : (s : List ℕ) (d : List (Option ℕ)) (b : Errors) (o : List ℕ) → Walk → (i : ℕ) → Walk → (b' : Errors) (o' : List ℕ) → Type 0
 VisitsBy s d = Visits (table_graph s d)
 
 -- what is left: a place in the order for each item that is not marked, and the number of a visit for each of its fields and for l more

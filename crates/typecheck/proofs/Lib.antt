@@ -3,3 +3,4 @@ pub mod Faults
 pub mod Faulty
 pub mod GivenParts
 pub mod Meant
+pub mod Returns

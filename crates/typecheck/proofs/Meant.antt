@@ -7,6 +7,7 @@ use mathlib.Core.Logic.{inl, inr}
 use mathlib.Core.Bool.{Bool, true, false, not}
 use native.Mathlib.Omega.{arith}
 use borrow.Author.Tests.{eq-eqb}
+use Rattle.std.specs.Prelude.{Option, None}
 use Rattle.rules.specs.Numbers.{RustFunction, Ptr, no_row}
 use Rattle.rules.specs.declared.Place.TheVariants.{F, A, O}
 use Rattle.rules.specs.declared.Diagnostic.{Diagnostic}
@@ -17,8 +18,9 @@ use Rattle.rules.specs.Types.{Types}
 use Rattle.rules.specs.Check.{check_struct_field, check_fn_arg, check_fn_return}
 use Rattle.laws.proofs.Base.Tests.{never}
 use Rattle.laws.specs.Kinds.{RowOrNone}
-use Rattle.laws.specs.RowTable.{read_at}
+use Rattle.laws.specs.RowTable.{entry_or}
 use Rattle.laws.proofs.Sheet.Accepted.Items.{FunctionOf}
+use Rattle.row_tables.specs.declared.faults.Misfit.{Misfit}
 use Rattle.row_tables.specs.Tables.{FaultRows}
 use Rattle.row_tables.proofs.FaultLaws.{fault-read}
 use Rattle.typecheck.specs.Tests.{struct_field, struct_fields, function_of, function_arg, function_args, function_return}
@@ -29,10 +31,10 @@ unfolding over
 over-same zero f g h = refl
 over-same (suc n) f g h = rw (h n (omega arith), over-same n f g (λ k l. h k (omega arith)))
 
-module _ (s : List ℕ) (t : Types) (u : List ℕ) (right : FaultRows s t u) (i : ℕ) where
+module _ (s : List ℕ) (t : Types) (u : List (Option Misfit)) (right : FaultRows s t u) (i : ℕ) where
   -- ## Fields
 
-  field-meant : (j : ℕ) → field s i j < rows s → struct_field i j (read_at u (field s i j)) ≡ check_struct_field s t i j
+  field-meant : (j : ℕ) → field s i j < rows s → struct_field i j (entry_or None u (field s i j)) ≡ check_struct_field s t i j
   unfolding check_struct_field
   field-meant j l = rw (fault-read s t right (field s i j) l) (row-says s t (field s i j) (say 31 (F i j)) (tell 32 (F i j)))
 

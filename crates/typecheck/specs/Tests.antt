@@ -1,6 +1,6 @@
 -- The parts of check.rs that are functions of their own in the code, by what the code hands over: numbers, rows, and lent tables.
 -- Assumes nothing: these are definitions.
-use Rattle.std.specs.Prelude.{ℕ, List, [], Bool, not, ◌&&◌, ◌||◌, eqb}
+use Rattle.std.specs.Prelude.{ℕ, List, [], Bool, not, ◌&&◌, ◌||◌, eqb, Option, Some, None}
 use Rattle.rules.specs.Numbers.{static, Ptr, CxxFunction, RustFunction}
 use Rattle.rules.specs.declared.Place.TheVariants.{I, F, A, O, L}
 use Rattle.rules.specs.declared.Diagnostic.{Diagnostic}
@@ -10,8 +10,9 @@ use Rattle.rules.specs.View.{is, item_is, item_name, field_count, field}
 use Rattle.rules.specs.View.{function_unsafe, function_unwind, is_method, is_free, self_type, receiver_mutable, return, has_return, arg_count, arg}
 use Rattle.rules.specs.Types.{Types, is_struct, is_cxx, is_rust, is_untrusted, is_required_trivial, untrusted_of, reasons_for}
 use Rattle.rules.specs.Check.{may_have_lifetimes, check_mut_return_restriction, check_fn_receiver, check_fn_self_type}
-use Rattle.laws.specs.RowTable.{read_at}
-use Rattle.row_tables.specs.Tables.{fn_fault}
+use Rattle.laws.specs.RowTable.{entry_or}
+use Rattle.row_tables.specs.declared.faults.Misfit.{Misfit}
+use Rattle.row_tables.specs.declared.faults.Misfit.TheVariants.{Pointer, Unsized}
 use Rattle.typecheck.specs.declared.functions.Function.{Function}
 
 -- ## Names
@@ -34,28 +35,29 @@ undeclared t n = not (is_struct t n) && not (is_cxx t n) && not (is_rust t n)
 
 -- ## A row that stands by value, by the table of faults
 
--- where there is no fault, nothing; one message for a function pointer, another for what is unsized
-unfoldable pub by_fault : (fault : ℕ) (pointer unsized : List Diagnostic) → List Diagnostic
-by_fault x p u = if' eqb x 0 then [] else if' eqb x fn_fault then p else u
+-- what is said where there is no fault, of a function pointer, and of what is unsized, by its branch of `describe`
+unfoldable pub by_fault : Option Misfit → (none pointer : List Diagnostic) (unsized : ℕ → List Diagnostic) → List Diagnostic
+by_fault None n p u = n
+by_fault (Some Pointer) n p u = p
+by_fault (Some (Unsized d)) n p u = u d
 
 -- field j of struct i, by the fault of its row
-abbrev pub struct_field : (i j fault : ℕ) → List Diagnostic
-struct_field i j x = by_fault x (say 31 (F i j)) (tell 32 (F i j) x)
+abbrev pub struct_field : (i j : ℕ) → Option Misfit → List Diagnostic
+struct_field i j x = by_fault x [] (say 31 (F i j)) (tell 32 (F i j))
 
 -- a function, with what each of its arguments asks of it
 abbrev pub function_of : List ℕ → (i : ℕ) → Function
 function_of s i = record { item = i; rust = item_is s RustFunction i; safe = not (function_unsafe s i) }
 
-module _ (s faults : List ℕ) where
+module _ (s : List ℕ) (faults : List (Option Misfit)) where
   unfoldable pub struct_fields : (i : ℕ) → List Diagnostic
-  struct_fields i = over (field_count s i) (λ j. struct_field i j (read_at faults (field s i j)))
+  struct_fields i = over (field_count s i) (λ j. struct_field i j (entry_or None faults (field s i j)))
 
-  -- argument j is row r
+  -- argument j is row r: whether it is a pointer is asked behind a function pointer, and before what is unsized
   unfoldable pub function_arg : Function → (j r : ℕ) → List Diagnostic
   function_arg f j r =
-      if' eqb (read_at faults r) fn_fault then when f.rust (say 47 (A f.item j)) else
-      if' is s Ptr r then when f.safe (say 48 (A f.item j)) else
-      if' eqb (read_at faults r) 0 then [] else tell 49 (A f.item j) (read_at faults r)
+      let or-pointer = λ (other : List Diagnostic). if' is s Ptr r then when f.safe (say 48 (A f.item j)) else other in
+      by_fault (entry_or None faults r) (or-pointer []) (when f.rust (say 47 (A f.item j))) (λ d. or-pointer (tell 49 (A f.item j) d))
 
   unfoldable pub function_args : (i : ℕ) → List Diagnostic
   function_args i = over (arg_count s i) (λ j. function_arg (function_of s i) j (arg s i j))
@@ -63,7 +65,7 @@ module _ (s faults : List ℕ) where
   unfoldable pub function_return : (i : ℕ) → List Diagnostic
   function_return i =
       if' not (has_return s i) then [] else
-      by_fault (read_at faults (return s i)) (say 50 (O i)) (tell 51 (O i) (read_at faults (return s i)))
+      by_fault (entry_or None faults (return s i)) [] (say 50 (O i)) (tell 51 (O i))
 
 -- ## Functions
 

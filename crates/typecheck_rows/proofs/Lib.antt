@@ -1,2 +1,3 @@
+pub mod KindTests
 pub mod Reports
 pub mod UnsizedTable

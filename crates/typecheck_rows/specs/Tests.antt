@@ -36,16 +36,16 @@ module _ (s : List ℕ) (r : ℕ) where
   -- ## Row r is a slice or an array: messages 23 and 24
 
   -- a slice of it is supported, by the table of the unsized rows
-  abbrev pub slice_element : Types → (sizes : List ℕ) → Bool
+  abbrev pub slice_element : Types → (sizes : List Bool) → Bool
   slice_element t u = not (marked u (inner s r)) || (plain && (is_rust t target || is_alias t target))
 
   abbrev pub extern_element : Types → Bool
   extern_element t = plain && is_extern t target
 
-  abbrev pub slice_ref : Types → (sizes : List ℕ) → List Diagnostic
+  abbrev pub slice_ref : Types → (sizes : List Bool) → List Diagnostic
   slice_ref t u = when (not (slice_element t u)) (tell 23 (R r) (bit (extern_element t)))
 
-  abbrev pub array : (sizes : List ℕ) → List Diagnostic
+  abbrev pub array : (sizes : List Bool) → List Diagnostic
   array u = when (marked u (inner s r)) (say 24 (R r))
 
   -- ## Row r is a reference or a function pointer

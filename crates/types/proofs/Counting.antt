@@ -14,18 +14,20 @@ use lib.Dec.{ltb, eqb}
 use borrow.Author.Tests.{lt-ltb, le-ltb, eq-eqb, ne_eqb}
 use Rattle.rules.specs.Numbers.{RustBox, RustVec, SliceRef, Struct, no_row, name_count, struct_set, enum_set, cxx_set, required_trivial_set}
 use Rattle.rules.specs.Base.{if'◌then◌else◌, over}
+use Rattle.rules.specs.Kinds.{some_unless}
 use Rattle.rules.specs.Count.{count}
 use Rattle.rules.specs.Format.{pair_at}
 use Rattle.rules.specs.Names.{Words}
-use Rattle.rules.specs.View.{function_kind, kind, is, inner, entry, items, item_kind}
+use Rattle.rules.specs.View.{function_kind, kind, is, inner, items, item_kind}
 use Rattle.rules.specs.View.{item_is, is_function, rest, field_count, field, return_place, has_return, return, arg_count, arg}
 use Rattle.rules.specs.Trivial.{extern_in, insist, reasons_of_item, reasons_of_row}
-use Rattle.rules.specs.Types.{is_extern, reasons_for}
+use Rattle.rules.specs.Types.{is_extern}
 use Rattle.laws.proofs.Base.Counts.{Eq?, same, other, eq?}
 use Rattle.names.specs.Known.{column_count, table_size, entry_at, names_in, tabled, entered}
-use Rattle.names.proofs.Columns.{entry-out, count-is, entered-out, entered-long, entered_here, entered-there, entered-other, column-same}
-use Rattle.std.specs.Prelude.{Option}
-use Rattle.types.specs.Reasons.{most_reasons, one_more, tally, Tallied, Wants, of_plain, of_return, of_item, of_row, of_all}
+use Rattle.names.proofs.Columns.{entry-out, entered-out, entered-long, entered_here, entered-there, entered-other, column-same}
+use Rattle.std.specs.Prelude.{Option, Some, None}
+use Rattle.types.specs.declared.reasons.Reasons.{Reasons}
+use Rattle.types.specs.Reasons.{Counted, most_reasons, one_more, tally, Tallied, Wants, of_plain, of_list, of_return, of_item, of_row, of_all}
 
 -- ## One list after another
 
@@ -47,6 +49,10 @@ tally-none = record { is = refl }
 
 pub tally-then : {xs ys w u v : List ℕ} → Tallied w xs u → Tallied u ys v → Tallied w (xs ++ ys) v
 tally-then {xs} {ys} {w} p q = record { is = (rw p.is at q.is) ∙ tally-append w xs ys }
+
+-- what a table came to, where a reference ends
+pub tally-as : {w ns u v : List ℕ} → Tallied w ns u → v ≡ u → Tallied w ns v
+tally-as p e = record { is = e ∙ p.is }
 
 -- every other column stays as it was
 pub tally-other : (ns w : List ℕ) (j n : ℕ) → j ≢ required_trivial_set → j < column_count → n < name_count → entry_at (tally w ns) j n ≡ entry_at w j n
@@ -72,20 +78,39 @@ pub tally-by : (s : List ℕ) {w ns u v : List ℕ} (f : (ℕ → Bool) → List
 tally-by s f p q = rw (← (extern-same s p)) q
 
 -- and the table of the names that rows want
-pub wants-same : (s : List ℕ) {w ns u : List ℕ} (table : List (Option ℕ)) → Tallied w ns u → Wants s w table → Wants s u table
-wants-same s table p h = rw (extern-same s p) h
+pub wants-same : {t u : Reasons} {ns : List ℕ} → Counted t ns u → Wants t → Wants u
+wants-same {t} p h = rw (p.sheet, p.wants, extern-same t.s.now p.names) h
 
-module _ (f : ℕ → List ℕ) where
-  pub over_none : {t : List ℕ} → Tallied t (over 0 f) t
+-- a list counted after another, by the sheet and the names as they were before both
+pub counted-then : {t u v : Reasons} {ns : List ℕ} (f : (s : List ℕ) → (ℕ → Bool) → List ℕ) → Counted t ns u
+    → Counted u (f u.s.now (is_extern (tabled u.s.now u.names.now))) v
+    → Counted t (ns ++ f t.s.now (is_extern (tabled t.s.now t.names.now))) v
+counted-then {t} {u} {v} {ns} f p q = record {
+  names = tally-then p.names (tally-by t.s.now (f t.s.now) p.names (rw p.sheet at q.names));
+  sheet = q.sheet ∙ p.sheet;
+  wants = q.wants ∙ p.wants;
+  same = q.same ∙ p.same;
+}
+
+-- one that is counted in the table alone
+pub counted-names : {t u : Reasons} {ns : List ℕ} → u.s ≡ t.s → u.wants ≡ t.wants → u.names.ghost_name ≡ t.names.ghost_name
+    → Tallied t.names.now ns u.names.now
+    → Counted t ns u
+counted-names e f g p = record { names = p; sheet = e; wants = f; same = g }
+
+pub counted_none : {t : Reasons} → Counted t [] t
+counted_none = record { names = tally-none; sheet = refl; wants = refl; same = refl }
+
+module _ (f : (s : List ℕ) → (ℕ → Bool) → ℕ → List ℕ) {t : Reasons} where
+  pub over_none : Counted t (over 0 (f t.s.now (is_extern (tabled t.s.now t.names.now)))) t
   unfolding over
-  over_none = tally-none
+  over_none = counted_none
 
-  pub over-more : (j : ℕ) {t u v : List ℕ} → Tallied t (over j f) u → Tallied u (f j) v → Tallied t (over (j + 1) f) v
+  pub over-more : (j : ℕ) {u v : Reasons} → Counted t (over j (f t.s.now (is_extern (tabled t.s.now t.names.now)))) u
+      → Counted u (f u.s.now (is_extern (tabled u.s.now u.names.now)) j) v
+      → Counted t (over (j + 1) (f t.s.now (is_extern (tabled t.s.now t.names.now)))) v
   unfolding over
-  over-more j p q = rw (add-one j) (tally-then p q)
-
-  pub over-end : (j : ℕ) {n : ℕ} {t u : List ℕ} → Tallied t (over j f) u → j ≡ n → Tallied t (over n f) u
-  over-end j p e = rw (← e) p
+  over-more j p q = rw (add-one j) (counted-then (λ s g. f s g j) p q)
 
 -- ## A row
 
@@ -99,64 +124,68 @@ counted-once {x} {y} h e = go (dec_lt x most_reasons)
     go (no l) = rw (le-ltb x most_reasons (omega arith)) (omega arith)
 
 -- one reason for a name
-pub name-counted : (s w : List ℕ) (n : ℕ) {x y : ℕ} {u : List ℕ} → x ≡ reasons_for (tabled s w) n → y ≡ one_more x → u ≡ entered w required_trivial_set true n y
+pub name-counted : (w : List ℕ) (n : ℕ) {x y : ℕ} {u : List ℕ} → x ≡ entry_at w required_trivial_set n → y ≡ one_more x
+    → u ≡ entered w required_trivial_set true n y
     → Tallied w (n ∷ []) u
-unfolding tally reasons_for tabled
-name-counted s w n had more is =
-    record { is = is ∙ ap (entered w reasons true n) (more ∙ ap one_more (had ∙ count-is w reasons n)) }
+unfolding tally
+name-counted w n had more is = record { is = is ∙ ap (entered w reasons true n) (more ∙ ap one_more had) }
 
 module _ (s w : List ℕ) (r : ℕ) where
-  pub return-none : r ≡ no_row → Tallied w (of_return s w r) w
-  unfolding if'◌then◌else◌
-  return-none e = rw (eq-eqb r no_row e) tally-none
+  -- a return row, or none, by its number
+  return-is : of_return s w (some_unless no_row r) ≡ (if' not (eqb r no_row) then of_plain s w r else [])
+  unfolding some_unless if'◌then◌else◌
+  return-is = go (eqb r no_row)
+    where
+      go : (b : Bool) → of_return s w (if' b then None else Some r) ≡ if' not b then of_plain s w r else []
+      go true = refl
+      go false = refl
 
-  pub return-some : (r ≡ no_row → ⊥) → {u : List ℕ} → Tallied w (of_plain s w r) u → Tallied w (of_return s w r) u
-  unfolding if'◌then◌else◌
-  return-some h p = rw (ne_eqb r no_row h) p
-
+module _ (t : Reasons) (r : ℕ) where
   -- a collected row
-  module _ {k : ℕ} {b : Bool} (is_kind : k ≡ kind s r) (test : b ≡ (eqb k RustBox || eqb k RustVec || eqb k SliceRef)) where
-    holder-is : b ≡ (is s RustBox r || is s RustVec r || is s SliceRef r)
+  module _ {k : ℕ} {b : Bool} (is_kind : k ≡ kind t.s.now r) (test : b ≡ (eqb k RustBox || eqb k RustVec || eqb k SliceRef)) where
+    holder-is : b ≡ (is t.s.now RustBox r || is t.s.now RustVec r || is t.s.now SliceRef r)
     unfolding is
     holder-is = rw is_kind at test
 
-    pub row-none : b ≡ false → Tallied w (of_row s w r) w
+    pub row-none : b ≡ false → Counted t (of_row t.s.now t.names.now r) t
     unfolding reasons_of_row if'◌then◌else◌
-    row-none h = rw (sym holder-is ∙ h) tally-none
+    row-none h = rw (sym holder-is ∙ h) counted_none
 
-    pub row-some : b ≡ true → {x : ℕ} {u : List ℕ} → x ≡ inner s r → Tallied w (of_plain s w x) u → Tallied w (of_row s w r) u
+    pub row-some : b ≡ true → {x : ℕ} {u : Reasons} → x ≡ inner t.s.now r → Counted t (of_plain t.s.now t.names.now x) u
+        → Counted t (of_row t.s.now t.names.now r) u
     unfolding reasons_of_row if'◌then◌else◌
     row-some h e p = rw (sym holder-is ∙ h, ← e) p
 
 -- ## An item
 
--- the reasons of a list
-abbrev listed : (s w : List ℕ) (at : ℕ) → List ℕ
-listed s w at = over (pair_at s at) (λ j. of_plain s w (entry s at j))
-
-module _ (s w : List ℕ) (i : ℕ) {k : ℕ} (is_kind : k ≡ item_kind s i) where
-  pub item-fields : k ≡ Struct → {at : ℕ} {u : List ℕ} → at ≡ rest s i → Tallied w (listed s w at) u → Tallied w (of_item s w i) u
+module _ (t : Reasons) (i : ℕ) {k : ℕ} (is_kind : k ≡ item_kind t.s.now i) where
+  pub item-fields : k ≡ Struct → {at : ℕ} {u : Reasons} → at ≡ rest t.s.now i → Counted t (of_list t.s.now t.names.now at) u
+      → Counted t (of_item t.s.now t.names.now i) u
   unfolding reasons_of_item item_is field_count field if'◌then◌else◌
-  item-fields h e p = rw (eq-eqb (item_kind s i) Struct (sym is_kind ∙ h), ← e) p
+  item-fields h e p = rw (eq-eqb (item_kind t.s.now i) Struct (sym is_kind ∙ h), ← e) p
 
   module _ (other : k ≡ Struct → ⊥) {function : Bool} (test : function ≡ function_kind k) where
-    no_struct : eqb (item_kind s i) Struct ≡ false
-    no_struct = ne_eqb (item_kind s i) Struct (λ q. other (is_kind ∙ q))
+    no_struct : eqb (item_kind t.s.now i) Struct ≡ false
+    no_struct = ne_eqb (item_kind t.s.now i) Struct (λ q. other (is_kind ∙ q))
 
-    is_function_lem : function ≡ is_function s i
+    is_function_lem : function ≡ is_function t.s.now i
     unfolding is_function
     is_function_lem = rw is_kind at test
 
-    pub item-none : function ≡ false → Tallied w (of_item s w i) w
+    pub item-none : function ≡ false → Counted t (of_item t.s.now t.names.now i) t
     unfolding reasons_of_item item_is if'◌then◌else◌
-    item-none h = rw (no_struct, sym is_function_lem ∙ h) tally-none
+    item-none h = rw (no_struct, sym is_function_lem ∙ h) counted_none
 
-    pub item-function : function ≡ true → {at x : ℕ} {u v : List ℕ} → at ≡ return_place s i → x ≡ pair_at s at → Tallied w (listed s w (at + 2)) u
-        → Tallied u (of_return s u x) v → Tallied w (of_item s w i) v
+    pub item-function : function ≡ true → {at : ℕ} {row : Option ℕ} {u v : Reasons} → at ≡ return_place t.s.now i + 2
+        → row ≡ some_unless no_row (return t.s.now i)
+        → Counted t (of_list t.s.now t.names.now at) u
+        → Counted u (of_return u.s.now u.names.now row) v
+        → Counted t (of_item t.s.now t.names.now i) v
     unfolding reasons_of_item item_is arg_count arg has_return return if'◌then◌else◌
-    item-function h {x = x} e q p o =
-        let o' = tally-by s (λ f. if' not (eqb x no_row) then insist s f x else []) p o in
-        rw (no_struct, sym is_function_lem ∙ h, ← e, ← q) (tally-then p o')
+    item-function h {at = at} {u = u} e q p o =
+        let x = return t.s.now i in
+        let both = counted-then (λ s f. if' not (eqb x no_row) then insist s f x else []) p (rw (q, return-is u.s.now u.names.now x) at o) in
+        rw (no_struct, sym is_function_lem ∙ h, ← e) both
 
 -- ## No reasons at all
 

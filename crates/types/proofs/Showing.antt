@@ -13,8 +13,9 @@ use native.Mathlib.Nat.{le_refl}
 use mathlib.Core.Logic.{◌⊎◌, inl, inr}
 use Rattle.std.specs.Prelude.{Option, Some}
 use Rattle.rules.specs.declared.item.ItemKind.{ItemKind}
-use Rattle.rules.specs.Kinds.{item_kind as kind_of_item, item_number, item_kind-back}
-use Rattle.rules.specs.Numbers.{Struct, Enum, CxxFunction, RustFunction, Impl}
+use Rattle.rules.specs.Kinds.{item_kind as kind_of_item, item_number, some_unless}
+use Rattle.rules.proofs.KindLaws.{item_kind-back}
+use Rattle.rules.specs.Numbers.{Struct, Enum, CxxFunction, RustFunction, Impl, no_row}
 use Rattle.rules.specs.Base.{over}
 use Rattle.rules.specs.Format.{pair_at, offset, Accepted}
 use Rattle.rules.specs.View.{function_kind, rows, past, entry, entries, or_nothing, items, item_place, item_kind, is_function}
@@ -24,12 +25,14 @@ use Rattle.rules.specs.Types.{types_of}
 use Rattle.laws.specs.Skip.{skip_visit, skip_to}
 use Rattle.laws.proofs.Base.Tests.{or_is}
 use Rattle.laws.proofs.Sheet.Collect.{all-skip}
-use Rattle.laws.specs.Kinds.{RowOrNone}
+use Rattle.row_tables.specs.Tables.{one_of}
 use Rattle.laws.proofs.Sheet.Accepted.Items.{item-of}
 use Rattle.laws.proofs.Sheet.Collect.Shown.{shown_by-struct, shown_by-enum, shown_by-function, shown_by-impl, shown_by-other}
+use Rattle.scratch.specs.declared.Rows.{Rows}
 use Rattle.scratch.specs.Bytes.{rows_of, Grown}
+use Rattle.scratch.specs.Collecting.{collected, Grows}
 use Rattle.types.specs.Walk.{Inside, Held, Walks}
-use Rattle.types.proofs.Walking.{still, wider, further}
+use Rattle.types.proofs.Walking.{still, wider, further, read_shown, read-below}
 
 -- ## Places
 
@@ -55,9 +58,10 @@ module _ (s : List ℕ) (acc : Accepted s) (i : ℕ) (l : i < items s) where
   unfolding arg_count
   args-inside h e = rw e ((item-of s acc i l).as_function h).args-inside
 
-  pub return-below : is_function s i ≡ true → {at x : ℕ} → at ≡ return_place s i → x ≡ pair_at s at → RowOrNone (rows s) x
+  pub return-below : is_function s i ≡ true → {at : ℕ} {row : Option ℕ} → at ≡ return_place s i → row ≡ some_unless no_row (pair_at s at) → (r : ℕ)
+      → row ≡ Some r → r < rows s
   unfolding return
-  return-below h e q = rw (q, e) ((item-of s acc i l).as_function h).return-below
+  return-below h e q = read-below q (rw e ((item-of s acc i l).as_function h).return-below)
 
   pub fields-below : {k at : ℕ} → k ≡ item_kind s i → k ≡ Struct → at ≡ rest s i → (j : ℕ) → j < pair_at s at → entry s at j < rows s
   unfolding field_count field
@@ -75,27 +79,28 @@ module _ (s : List ℕ) (acc : Accepted s) (i : ℕ) (l : i < items s) where
 
 -- ## The walks
 
-module _ {s b : List ℕ} {n : ℕ} (i : ℕ) where
-  pub function-walk : {d e : List ℕ} {at x m r bound : ℕ} → at ≡ return_place s i → x ≡ pair_at s at → Walks s b d n bound (entries s (at + 2)) m
-      → Walks s d e m bound (or_nothing x) r → Walks s b e n bound (args s i ++ or_nothing (return s i)) r
+module _ {s : List ℕ} {b : Rows} (i : ℕ) where
+  pub function-walk : {d e : Rows} {at bound : ℕ} {row : Option ℕ} → at ≡ return_place s i → row ≡ some_unless no_row (pair_at s at)
+      → Walks s b bound (entries s (at + 2)) d
+      → Walks s d bound (one_of row) e → Walks s b bound (args s i ++ or_nothing (return s i)) e
   unfolding args return
-  function-walk e q w v = rw (← e, ← q) (further w v)
+  function-walk e q w v = rw (← e, ← (read_shown _ q)) (further w v)
 
-  pub fields-walk : {d : List ℕ} {k at m bound : ℕ} → k ≡ item_kind s i → k ≡ Struct → at ≡ rest s i → Walks s b d n bound (entries s at) m
-      → Walks s b d n bound (shown_by s i) m
+  pub fields-walk : {d : Rows} {k at bound : ℕ} → k ≡ item_kind s i → k ≡ Struct → at ≡ rest s i → Walks s b bound (entries s at) d
+      → Walks s b bound (shown_by s i) d
   unfolding fields
   fields-walk p h e w = rw (shown_by-struct s i (sym p ∙ h), ← e) w
 
-  pub repr-walk : {d : List ℕ} {k x m bound : ℕ} → k ≡ item_kind s i → k ≡ Enum → x ≡ enum_repr s i → x < bound → Walks s b d n (suc x) (x ∷ []) m
-      → Walks s b d n bound (shown_by s i) m
+  pub repr-walk : {d : Rows} {k x bound : ℕ} → k ≡ item_kind s i → k ≡ Enum → x ≡ enum_repr s i → x < bound → Walks s b (suc x) (x ∷ []) d
+      → Walks s b bound (shown_by s i) d
   repr-walk p h e l w = rw (shown_by-enum s i (sym p ∙ h), ← e) (wider w (omega arith))
 
-  pub impl-walk : {d : List ℕ} {k x m bound : ℕ} → k ≡ item_kind s i → k ≡ Impl → x ≡ impl_row s i → x < bound → Walks s b d n (suc x) (x ∷ []) m
-      → Walks s b d n bound (shown_by s i) m
+  pub impl-walk : {d : Rows} {k x bound : ℕ} → k ≡ item_kind s i → k ≡ Impl → x ≡ impl_row s i → x < bound → Walks s b (suc x) (x ∷ []) d
+      → Walks s b bound (shown_by s i) d
   impl-walk p h e l w = rw (shown_by-impl s i (sym p ∙ h), ← e) (wider w (omega arith))
 
-  pub function-shown : {d : List ℕ} {k m bound : ℕ} {t : Bool} → k ≡ item_kind s i → t ≡ function_kind k → t ≡ true
-      → Walks s b d n bound (args s i ++ or_nothing (return s i)) m → Walks s b d n bound (shown_by s i) m
+  pub function-shown : {d : Rows} {k bound : ℕ} {t : Bool} → k ≡ item_kind s i → t ≡ function_kind k → t ≡ true
+      → Walks s b bound (args s i ++ or_nothing (return s i)) d → Walks s b bound (shown_by s i) d
   function-shown p q h w = rw (shown_by-function s i (kinds p (or_is _ _ (sym q ∙ h)))) w
     where
       kinds : {k : ℕ} → k ≡ item_kind s i → (eqb k CxxFunction ≡ true) ⊎ (eqb k RustFunction ≡ true)
@@ -104,11 +109,12 @@ module _ {s b : List ℕ} {n : ℕ} (i : ℕ) where
       kinds {k} e (inr t) = inr (sym e ∙ eqb-true k RustFunction t)
 
   -- the kinds that show nothing
-  pub none-shown : {k bound : ℕ} → Held s b n → k ≡ item_kind s i → (eqb k Struct || eqb k Enum || function_kind k || eqb k Impl) ≡ false
-      → Walks s b b n bound (shown_by s i) n
-  none-shown {k} h p e = rw (shown_by-other s i k e (sym p)) (still h.held)
+  pub none-shown : {k bound : ℕ} → Held s b.scratch.now b.count → k ≡ item_kind s i
+      → (eqb k Struct || eqb k Enum || function_kind k || eqb k Impl) ≡ false
+      → Walks s b bound (shown_by s i) b
+  none-shown {k} h p e = rw (shown_by-other s i k e (sym p)) (still h)
 
-  pub past-shown : {bound : ℕ} → Held s b n → 9 ≤ item_kind s i → Walks s b b n bound (shown_by s i) n
+  pub past-shown : {bound : ℕ} → Held s b.scratch.now b.count → 9 ≤ item_kind s i → Walks s b bound (shown_by s i) b
   past-shown h l =
       let not : (k : ℕ) → k < 9 → eqb (item_kind s i) k ≡ false = λ k m. ne_eqb (item_kind s i) k (λ q. omega arith) in
       none-shown h refl (rw (not 1 (omega arith), not 2 (omega arith), not 5 (omega arith), not 6 (omega arith), not 8 (omega arith)))
@@ -131,19 +137,25 @@ to-items s (suc k) =
     ap (λ (all : List ℕ). foldl (skip_visit s (rows s)) all (shown_by s k)) (to-items s k)
     ∙ sym (foldl-append (skip_visit s (rows s)) [] (over k (shown_by s)) (shown_by s k))
 
-module _ {s b : List ℕ} where
-  pub items-none : Held s b 0 → Walks s b b 0 (rows s) (over 0 (shown_by s)) 0
+module _ {s : List ℕ} {b : Rows} where
+  pub items-none : Held s b.scratch.now b.count → Walks s b (rows s) (over 0 (shown_by s)) b
   unfolding over
-  items-none h = still h.held
+  items-none h = still h
 
-  pub items_more : {d e : List ℕ} {m r : ℕ} (i : ℕ) → Walks s b d 0 (rows s) (over i (shown_by s)) m → Walks s d e m (rows s) (shown_by s i) r
-      → Walks s b e 0 (rows s) (over (i + 1) (shown_by s)) r
+  pub items_more : {d e : Rows} (i : ℕ) → Walks s b (rows s) (over i (shown_by s)) d → Walks s d (rows s) (shown_by s i) e
+      → Walks s b (rows s) (over (i + 1) (shown_by s)) e
   unfolding over
   items_more i w v = rw (add-one i) (further w v)
 
-  pub items-end : {d : List ℕ} {m : ℕ} (i : ℕ) → Accepted s → Walks s b d 0 (rows s) (over i (shown_by s)) m → i ≡ items s → Grown b d m (types_of s).all
+  pub items-end : {d : Rows} (i : ℕ) → Accepted s → b.count ≡ 0 → Walks s b (rows s) (over i (shown_by s)) d → i ≡ items s → Grows b (types_of s).all d
   unfolding rows_of over
-  items-end i acc w e =
+  items-end i acc z w e =
       let g = w.grown (rows s) (le_refl (rows s)) in
-      let q : foldl (skip_visit s (rows s)) [] (over i (shown_by s)) ≡ (types_of s).all = sym (to-items s i) ∙ ap (skip_to s) e ∙ sym (all-skip s acc) in
-      rw q at g
+      let none : collected b ≡ [] = ap (rows_of b.scratch.now) z in
+      let first : foldl (skip_visit s (rows s)) (collected b) (over i (shown_by s)) ≡ skip_to s i =
+      ap (λ l. foldl (skip_visit s (rows s)) l (over i (shown_by s))) none ∙ sym (to-items s i) in
+      rw (first ∙ ap (skip_to s) e ∙ sym (all-skip s acc)) at g
+
+-- the bytes of the scratch, which nobody borrows any more
+pub left : {b d : Rows} {all bytes : List ℕ} → Grows b all d → bytes ≡ d.scratch.now → Grown b.scratch.now bytes d.count all
+left g e = rw e g.grown

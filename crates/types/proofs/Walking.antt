@@ -5,102 +5,125 @@ use mathlib.Core.Path.{◌≡◌, refl, sym, ◌∙◌}
 use mathlib.Core.Bool.{true, false}
 use mathlib.Core.List.{List, [], ◌∷◌, ◌++◌, foldl, foldl-append}
 use native.Mathlib.Omega.{arith}
+use native.Mathlib.Nat.{le_refl}
 use native.Mathlib.Numerals.{add-one}
-use lib.ListN.{length}
-use borrow.Author.Tests.{eq-eqb, ne_eqb}
+use lib.Dec.{eqb}
+use borrow.Author.Tests.{ne_eqb, eqb-false}
 use mathlib.Core.Logic.{inl, inr}
 use Rattle.rules.specs.Numbers.{Fn, most_rows, no_row}
-use Rattle.rules.specs.Base.{if'◌then◌else◌, over}
+use Rattle.rules.specs.Base.{over}
+use Rattle.rules.specs.Kinds.{some_unless}
+use Rattle.rules.proofs.KindLaws.{of_some}
 use Rattle.rules.specs.Format.{pair_at, offset, Accepted}
 use Rattle.rules.specs.View.{rows, kind, inner, fn_args, fn_arg_count, fn_arg, shown, entry, entries, or_nothing}
+use Rattle.std.specs.Prelude.{Option, Some}
+use Rattle.row_tables.specs.Tables.{one_of}
+use Rattle.row_tables.proofs.AnyOf.{one_or_nothing}
 use Rattle.laws.specs.Skip.{skip_visit}
 use Rattle.laws.proofs.Sheet.Accepted.Sheet.{sheet-of}
 use Rattle.laws.specs.Kinds.{leaf, RowOrNone}
-use Rattle.laws.proofs.Sheet.Accepted.Rows.{RowOf}
+use Rattle.laws.proofs.Sheet.Accepted.Rows.{row_of}
 use Rattle.laws.proofs.Base.Members.{in_head}
 use Rattle.laws.proofs.Sheet.Collect.Shown.{shown-inner, shown-falls}
-use Rattle.scratch.specs.Bytes.{rows_of, marked, HoldsRows, Grown}
-use Rattle.types.specs.Walk.{Held, Walkable, Walks}
+use Rattle.scratch.specs.declared.Rows.{Rows}
+use Rattle.scratch.specs.Bytes.{marked, HoldsRows}
+use Rattle.scratch.specs.Collecting.{collected, Grows}
+use Rattle.types.specs.Walk.{Held, Walkable, WalkableFn, Walks}
 use Rattle.scratch.proofs.Stored.{holds-self}
 
 -- ## Steps
 
-pub few : {s b : List ℕ} {n row : ℕ} → Walkable s b n row → row < most_rows
+pub few : {s : List ℕ} {b : Rows} {row : ℕ} → Walkable s b row → row < most_rows
 few {s} h = let a = (sheet-of s h.walk.accepted).few-rows in let l = h.below in omega arith
 
-pub held_next : {s b d : List ℕ} {n m : ℕ} {all : List ℕ} → Held s b n → HoldsRows d m all → length d ≡ length b → Held s d m
-held_next h g e = record { accepted = h.accepted; long = (let k = h.long in omega arith); held = holds-self g }
+module _ {b d : Rows} {all : List ℕ} (g : Grows b all d) where
+  also : {e : Rows} {more : List ℕ} → Grows d more e → Grows b more e
+  also h =
+      record {
+        grown = record { held = h.grown.held; kept = λ i p. h.grown.kept i p ∙ g.grown.kept i p };
+        long = h.long ∙ g.long;
+        same = h.same ∙ g.same;
+      }
 
-module _ {s b : List ℕ} {n : ℕ} where
-  pub still : {all : List ℕ} {bound : ℕ} → HoldsRows b n all → Walks s b b n bound [] n
-  still h = record { grown = λ f l. record { held = holds-self h; kept = λ i _. refl } }
+  pub held_next : {s : List ℕ} → Held s b.scratch.now b.count → Held s d.scratch.now d.count
+  held_next h = record { accepted = h.accepted; long = (let k = h.long in let e = g.long in omega arith); held = holds-self g.grown.held }
 
-  pub wider : {d l : List ℕ} {m k bound : ℕ} → Walks s b d n k l m → k ≤ bound → Walks s b d n bound l m
+standing : {b : Rows} {all : List ℕ} → HoldsRows b.scratch.now b.count all → Grows b (collected b) b
+standing h = record { grown = record { held = holds-self h; kept = λ i _. refl }; long = refl; same = refl }
+
+module _ {s : List ℕ} {b : Rows} where
+  pub still : {bound : ℕ} → Held s b.scratch.now b.count → Walks s b bound [] b
+  still h = record { grown = λ f l. standing h.held }
+
+  pub wider : {d : Rows} {l : List ℕ} {k bound : ℕ} → Walks s b k l d → k ≤ bound → Walks s b bound l d
   wider w h = record { grown = λ f l. w.grown f (omega arith) }
 
-  pub further : {d e l l' : List ℕ} {m r bound : ℕ} → Walks s b d n bound l m → Walks s d e m bound l' r → Walks s b e n bound (l ++ l') r
-  further {d} {e} {l} {l'} {m} {r} w v = record { grown = λ f h. by f (w.grown f h) (v.grown f h) }
+  pub further : {d e : Rows} {l l' : List ℕ} {bound : ℕ} → Walks s b bound l d → Walks s d bound l' e → Walks s b bound (l ++ l') e
+  further {d} {e} {l} {l'} w v = record { grown = λ f h. by f (w.grown f h) (v.grown f h) }
     where
-      by : (f : ℕ) → Grown b d m (foldl (skip_visit s f) (rows_of b n) l) → Grown d e r (foldl (skip_visit s f) (rows_of d m) l')
-          → Grown b e r (foldl (skip_visit s f) (rows_of b n) (l ++ l'))
+      by : (f : ℕ) → Grows b (foldl (skip_visit s f) (collected b) l) d → Grows d (foldl (skip_visit s f) (collected d) l') e
+          → Grows b (foldl (skip_visit s f) (collected b) (l ++ l')) e
       by f g h =
-          let k : Grown d e r (foldl (skip_visit s f) (foldl (skip_visit s f) (rows_of b n) l) l') = rw g.held.are at h in
-          rw (foldl-append (skip_visit s f) (rows_of b n) l l') (record { held = k.held; kept = λ i p. k.kept i p ∙ g.kept i p })
+          let k : Grows d (foldl (skip_visit s f) (foldl (skip_visit s f) (collected b) l) l') e = rw g.grown.held.are at h in
+          rw (foldl-append (skip_visit s f) (collected b) l l') (also g k)
+
+  -- what the walk leaves can be walked from
+  pub held_after : {d : Rows} {l : List ℕ} {bound : ℕ} → Held s b.scratch.now b.count → Walks s b bound l d → Held s d.scratch.now d.count
+  held_after {bound = bound} h w = held_next (w.grown bound (le_refl bound)) h
 
   -- ## One row
 
-  pub old : {row : ℕ} → Walkable s b n row → marked b row ≡ true → Walks s b b n (suc row) (row ∷ []) n
+  pub old : {row : ℕ} → Walkable s b row → marked b.scratch.now row ≡ true → Walks s b (suc row) (row ∷ []) b
   unfolding skip_visit
   old {row} h e = record { grown = by }
     where
-      by : (f : ℕ) → suc row ≤ f → Grown b b n (skip_visit s f (rows_of b n) row)
+      by : (f : ℕ) → suc row ≤ f → Grows b (skip_visit s f (collected b) row) b
       by zero l = absurd (omega arith)
-      by (suc f) l = rw (sym (h.walk.held.marks row (few h)) ∙ e, skip_visit) (record { held = h.walk.held; kept = λ i _. refl })
+      by (suc f) l = rw (sym (h.walk.held.marks row (few h)) ∙ e, skip_visit) (standing h.walk.held)
 
-  pub new : {d e l : List ℕ} {row m r : ℕ} → Walkable s b n row → marked b row ≡ false → Grown b d m (rows_of b n ++ row ∷ []) → shown s row ≡ l
-      → Walks s d e m row l r
-      → Walks s b e n (suc row) (row ∷ []) r
+  pub new : {d e : Rows} {l : List ℕ} {row : ℕ} → Walkable s b row → marked b.scratch.now row ≡ false → Grows b (collected b ++ row ∷ []) d
+      → shown s row ≡ l
+      → Walks s d row l e
+      → Walks s b (suc row) (row ∷ []) e
   unfolding skip_visit
-  new {d} {e} {l} {row} {m} {r} h o g q w = record { grown = by }
+  new {d} {e} {l} {row} h o g q w = record { grown = by }
     where
-      by : (f : ℕ) → suc row ≤ f → Grown b e r (skip_visit s f (rows_of b n) row)
+      by : (f : ℕ) → suc row ≤ f → Grows b (skip_visit s f (collected b) row) e
       by zero p = absurd (omega arith)
       by (suc f) p =
           let k = w.grown f (omega arith) in
-          rw (sym (h.walk.held.marks row (few h)) ∙ o, skip_visit, q, ← g.held.are) (record { held = k.held; kept = λ i p. k.kept i p ∙ g.kept i p })
+          rw (sym (h.walk.held.marks row (few h)) ∙ o, skip_visit, q, ← g.grown.held.are) (also g k)
 
-  -- ## A row or none, and a list of rows
+-- ## A row or none, and a list of rows
 
-  pub none : {x bound : ℕ} → Held s b n → x ≡ no_row → Walks s b b n bound (or_nothing x) n
-  unfolding or_nothing if'◌then◌else◌
-  none {x} h e = rw (eq-eqb x no_row e) (still h.held)
+-- a return row that was read, by its number: what it shows, and that it is a row
+pub read_shown : (r : ℕ) {o : Option ℕ} → o ≡ some_unless no_row r → one_of o ≡ or_nothing r
+read_shown r e = rw e (one_or_nothing r)
 
-  pub one : {d : List ℕ} {x m bound : ℕ} → (x ≡ no_row → ⊥) → x < bound → Walks s b d n (suc x) (x ∷ []) m → Walks s b d n bound (or_nothing x) m
-  unfolding or_nothing if'◌then◌else◌
-  one {x = x} h l w = rw (ne_eqb x no_row h) (wider w (omega arith))
+pub read-below : {limit r : ℕ} {o : Option ℕ} → o ≡ some_unless no_row r → RowOrNone limit r → (x : ℕ) → o ≡ Some x → x < limit
+read-below {limit} {r} e below x q = by below (of_some no_row r (sym q ∙ e))
+  where
+    by : RowOrNone limit r → (r ≡ x) × (eqb r no_row ≡ false) → x < limit
+    by (inl none) h = absurd (eqb-false r no_row h.1 none)
+    by (inr l) h = rw h.0 at l
 
 -- the first j rows of a list
 abbrev pub first_rows : (s : List ℕ) (at j : ℕ) → List ℕ
 first_rows s at j = over j (λ k. entry s at k ∷ [])
 
-module _ {s b : List ℕ} {n : ℕ} (at : ℕ) where
-  pub to_none : {all : List ℕ} {bound : ℕ} → HoldsRows b n all → Walks s b b n bound (first_rows s at 0) n
+module _ {s : List ℕ} {b : Rows} (at : ℕ) where
+  pub to_none : {bound : ℕ} → Held s b.scratch.now b.count → Walks s b bound (first_rows s at 0) b
   unfolding over
   to_none h = still h
 
-  pub to-more : {d e : List ℕ} {bound x m r : ℕ} (j : ℕ) → Walks s b d n bound (first_rows s at j) m → x ≡ entry s at j → x < bound
-      → Walks s d e m (suc x) (x ∷ []) r
-      → Walks s b e n bound (first_rows s at (j + 1)) r
+  pub to-more : {d e : Rows} {bound x : ℕ} (j : ℕ) → Walks s b bound (first_rows s at j) d → x ≡ entry s at j → x < bound → Walks s d (suc x) (x ∷ []) e
+      → Walks s b bound (first_rows s at (j + 1)) e
   unfolding over
   to-more j w q l v = rw (add-one j, ← q) (further w (wider v (omega arith)))
 
-  pub to_end : {d : List ℕ} {bound m : ℕ} (j : ℕ) → Walks s b d n bound (first_rows s at j) m → j ≡ pair_at s at → Walks s b d n bound (entries s at) m
+  pub to_end : {d : Rows} {bound : ℕ} (j : ℕ) → Walks s b bound (first_rows s at j) d → j ≡ pair_at s at → Walks s b bound (entries s at) d
   unfolding entries
   to_end j w q = rw (← q) w
-
-pub not_none : {limit x : ℕ} → RowOrNone limit x → (x ≡ no_row → ⊥) → x < limit
-not_none (inl e) h = absurd (h e)
-not_none (inr l) h = l
 
 -- ## A row that is no leaf and no Fn shows the row inside
 
@@ -113,12 +136,22 @@ module _ (s : List ℕ) where
 
   -- ## The arguments of an Fn stand in a list behind its return
 
-  pub args-less : {row o j n x : ℕ} → RowOf s row → kind s row ≡ Fn → o ≡ offset s row → n ≡ pair_at s (o + 6) → j < n → x ≡ entry s (o + 6) j → x < row
-  unfolding fn_arg_count fn_arg
-  args-less {row} {o} {j} r k e q l p =
-      let a : (i : ℕ) → i < pair_at s (o + 6) → entry s (o + 6) i < row = rw e (r.arg-falls k) in
-      rw p (a j (omega arith))
+  -- each is less than the row, and can be walked from what was collected before it
+  module _ {b : Rows} {row at n : ℕ} (h : WalkableFn s b row) (e : at ≡ offset s row + 6) (q : n ≡ pair_at s at) where
+    pub arg-less : {j x : ℕ} → j < n → x ≡ entry s at j → x < row
+    unfolding fn_arg_count fn_arg
+    arg-less {j} l p =
+        let r = row_of s h.ready.walk.accepted row h.ready.below in
+        let a : (i : ℕ) → i < pair_at s at → entry s at i < row = rw e (r.arg-falls h.is_fn) in
+        rw p (a j (omega arith))
 
-  pub args_are : (row : ℕ) {o : ℕ} → o ≡ offset s row → entries s (o + 6) ≡ fn_args s row
+    pub arg-next : {c d : Rows} {before : List ℕ} {j x : ℕ} → Walks s b row before c → Walks s c row (first_rows s at j) d → j < n → x ≡ entry s at j
+        → Walkable s d x
+    arg-next w v l p =
+        let x< = arg-less l p in
+        let row< = h.ready.below in
+        record { walk = held_after (held_after h.ready.walk w) v; below = omega arith }
+
+  pub args_are : (row : ℕ) {at : ℕ} → at ≡ offset s row + 6 → entries s at ≡ fn_args s row
   unfolding fn_args
   args_are row e = rw e

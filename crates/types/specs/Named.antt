@@ -1,11 +1,11 @@
 -- What the items before item i made known of the names, in the table of crate names, and of the functions, in one table of bits.
 -- Assumes nothing: these are definitions.
-use Rattle.std.specs.Prelude.{ℕ, zero, suc, ◌+◌, ◌*◌, ◌<◌, ◌≡◌, Bool, true, false, not, ◌&&◌, List, [], ◌∷◌, length, get_or, replicate, eqb}
-use Rattle.rules.specs.Numbers.{name_self, name_count}
+use Rattle.std.specs.Prelude.{ℕ, zero, suc, ◌+◌, ◌*◌, ◌<◌, ◌≡◌, Bool, true, false, not, ◌&&◌, ◌||◌, List, [], ◌∷◌, length, get_or, replicate, eqb}
+use Rattle.rules.specs.Numbers.{Struct, CxxType, name_self, name_count}
 use Rattle.rules.specs.Base.{if'◌then◌else◌}
 use Rattle.rules.specs.Format.{Accepted}
 use Rattle.rules.specs.Names.{Words, add}
-use Rattle.rules.specs.View.{items, item_kind, is_type, is_function, item_name, is_free, self_type}
+use Rattle.rules.specs.View.{enum_kind, items, item_kind, is_type, is_function, item_name, is_free, self_type}
 use Rattle.rules.specs.Collect.{enters_structs, enters_enums, enters_cxx, enters_rust, enters_aliases, enters_untrusted, duplicates}
 use Rattle.names.specs.Known.{column_count, table_size, LastColumn}
 use Rattle.errors.specs.declared.Errors.{Errors}
@@ -17,6 +17,12 @@ key_count = name_count * (name_count + 1)
 
 abbrev pub key_words : ℕ
 key_words = 1028
+
+-- whether an item of a kind does not go with what was declared before of its name: a struct, an enum, a type that is in cxx
+abbrev pub clashes : (kind : ℕ) (structs enums cxx : Bool) → Bool
+clashes k structs enums cxx =
+    if' eqb k Struct || enum_kind k then not cxx || structs || enums else
+    if' eqb k CxxType then cxx || (not structs && not enums) else true
 
 module _ (s : List ℕ) where
   -- item i of an accepted sheet, with its kind and its name
@@ -61,7 +67,7 @@ module _ (s : List ℕ) where
 -- ## What stands before an item's turn
 
 -- the names
-pub record Enterable (s : List ℕ) (i k n : ℕ) (w : List ℕ) : Type 0 where
+pub record WithNames (s : List ℕ) (i k n : ℕ) (w : List ℕ) : Type 0 where
   pub item : Item s i k n
   pub names : Named s i w
 
@@ -75,13 +81,6 @@ pub record KnownItem (s : List ℕ) (i k n : ℕ) (w bits : List ℕ) : Type 0 w
   pub item : Item s i k n
   pub names : Named s i w
   pub keys : bits ≡ keys_to s i
-
--- the names, of whatever kind the item is
-pub record KnownType (s : List ℕ) (i n : ℕ) (w : List ℕ) : Type 0 where
-  pub accepted : Accepted s
-  pub below : i < items s
-  pub name : n ≡ item_name s i
-  pub names : Named s i w
 
 -- the functions, where the item is one
 pub record KnownFunction (s : List ℕ) (i n : ℕ) (bits : List ℕ) : Type 0 where

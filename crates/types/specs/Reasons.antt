@@ -1,7 +1,7 @@
 -- Reasons counted as the code counts them: in a column of the table of names, one more for each name of a list.
 -- Assumes nothing: these are definitions.
-use Rattle.std.specs.Prelude.{ℕ, ◌+◌, ◌*◌, ◌<◌, ◌≡◌, true, not, Bool, ◌||◌, List, [], ◌∷◌, ◌++◌, ltb, eqb, Option}
-use Rattle.rules.specs.Numbers.{RustBox, RustVec, SliceRef, no_row, required_trivial_set}
+use Rattle.std.specs.Prelude.{ℕ, ◌+◌, ◌*◌, ◌<◌, ◌≡◌, true, Bool, ◌||◌, List, [], ◌∷◌, ◌++◌, ltb, eqb, Option, Some, None}
+use Rattle.rules.specs.Numbers.{RustBox, RustVec, SliceRef, required_trivial_set}
 use Rattle.rules.specs.Base.{if'◌then◌else◌, over}
 use Rattle.rules.specs.Format.{pair_at, Accepted}
 use Rattle.rules.specs.View.{entry, items}
@@ -9,6 +9,7 @@ use Rattle.rules.specs.Trivial.{insist, reasons_of_item, reasons_of_row}
 use Rattle.rules.specs.Types.{is_extern}
 use Rattle.names.specs.Known.{entry_at, tabled, entered}
 use Rattle.row_tables.specs.Tables.{WantRows}
+use Rattle.types.specs.declared.reasons.Reasons.{Reasons}
 use Rattle.types.specs.Walk.{Inside}
 
 -- a count stops at its largest, so that no sum wraps and no caller owes a bound; no sheet has so many reasons
@@ -31,28 +32,35 @@ pub record Tallied (w ns u : List ℕ) : Type 0 where
 abbrev pub holder : (kind : ℕ) → Bool
 holder k = eqb k RustBox || eqb k RustVec || eqb k SliceRef
 
+-- u is t with the reasons of a list counted, of the same sheet and in the same table of names
+pub record Counted (t : Reasons) (ns : List ℕ) (u : Reasons) : Type 0 where
+  pub names : Tallied t.names.now ns u.names.now
+  pub sheet : u.s ≡ t.s
+  pub wants : u.wants ≡ t.wants
+  pub same : u.names.ghost_name ≡ t.names.ghost_name
+
+-- the table of the names that the rows want
+abbrev pub Wants : Reasons → Type 0
+Wants u = WantRows u.s.now (tabled u.s.now u.names.now) u.wants.now
+
+-- what the reasons of the list at a place need: that table, and entries that stand in the sheet
+pub record WantsList (u : Reasons) (at : ℕ) : Type 0 where
+  pub wants : Wants u
+  pub inside : Inside u.s.now at
+
+-- those of an item: that table, and an accepted sheet that has the item
+pub record WantsItem (u : Reasons) (i : ℕ) : Type 0 where
+  pub wants : Wants u
+  pub accepted : Accepted u.s.now
+  pub below : i < items u.s.now
+
+-- and those of all items
+pub record WantsItems (u : Reasons) : Type 0 where
+  pub wants : Wants u
+  pub accepted : Accepted u.s.now
+
 -- the rules' lists of reasons, by what a table has of the names
 module _ (s w : List ℕ) where
-  -- the table of the names that the rows want
-  abbrev pub Wants : (table : List (Option ℕ)) → Type 0
-  Wants table = WantRows s (tabled s w) table
-
-  -- what the reasons of the list at a place need: that table, and entries that stand in the sheet
-  pub record WantsList (table : List (Option ℕ)) (at : ℕ) : Type 0 where
-    pub wants : Wants table
-    pub inside : Inside s at
-
-  -- those of an item: that table, and an accepted sheet that has the item
-  pub record WantsItem (table : List (Option ℕ)) (i : ℕ) : Type 0 where
-    pub wants : Wants table
-    pub accepted : Accepted s
-    pub below : i < items s
-
-  -- and those of all items
-  pub record WantsItems (table : List (Option ℕ)) : Type 0 where
-    pub wants : Wants table
-    pub accepted : Accepted s
-
   abbrev pub of_plain : (r : ℕ) → List ℕ
   of_plain r = insist s (is_extern (tabled s w)) r
 
@@ -61,8 +69,9 @@ module _ (s w : List ℕ) where
   of_list at = over (pair_at s at) (λ j. of_plain (entry s at j))
 
   -- of a return row, or of none
-  abbrev pub of_return : (r : ℕ) → List ℕ
-  of_return r = if' not (eqb r no_row) then of_plain r else []
+  abbrev pub of_return : Option ℕ → List ℕ
+  of_return (Some r) = of_plain r
+  of_return None = []
 
   abbrev pub of_item : (i : ℕ) → List ℕ
   of_item i = reasons_of_item s (is_extern (tabled s w)) i

@@ -4,37 +4,42 @@ ghost use Rattle.rules.specs.Kinds.{item_number};
 ghost use Rattle.rules.specs.Names.{◌∋◌, add};
 ghost use Rattle.rules.specs.View.{item_name};
 ghost use Rattle.rules.specs.Collect.{duplicate_type, duplicate_function, duplicate};
-ghost use Rattle.types.specs.Named.{key_count, of_self, key_of, keys_to, KnownType, KnownFunction, KnownItem, WithKeys};
+ghost use Rattle.names.specs.Known.{sheet};
+ghost use Rattle.types.specs.Named.{clashes, key_count, of_self, key_of, keys_to, WithNames, KnownFunction, KnownItem, WithKeys};
 
-use names::known;
-use names::known::Names;
+use names::known::Known;
 use rules::item::ItemKind;
 use rules::name;
-use sheet::{functions, items};
+use sheet::functions;
 
 // A bit for each self type, or none, and each name.
-pub const KEY_WORDS: usize = 1028;
+pub const KEY_WORDS: usize = name::COUNT * (name::COUNT + 1) / 64;
 
 type Keys = [u64; KEY_WORDS];
 
-// Whether the type that item i declares is a duplicate, by what is known of the names as of that item.
-fn duplicate_type(s: &[u8], names: &Names, i: u16, n: u16) -> bool
-    requires { KnownType s.now i n names.now }
-    ensures { result ≡ duplicate_type s.now i }
+// Whether an item of kind k does not go with what was declared before of its name: a struct, an enum, a type that is in cxx.
+fn clashes(k: ItemKind, structs: bool, enums: bool, cxx: bool) -> bool
+    ensures { result ≡ clashes (item_number k) structs enums cxx }
 {
-    if !known::is_declared(names, n) {
+    match k {
+        ItemKind::Struct | ItemKind::Enum => !cxx || structs || enums,
+        ItemKind::CxxType => cxx || (!structs && !enums),
+        _ => true,
+    }
+}
+
+// Whether the type that item i declares is a duplicate, by what is known of the names as of that item.
+fn duplicate_type(known: &Known<'_>, i: u16, k: ItemKind, n: u16) -> bool
+    requires { WithNames (sheet known.now) i (item_number k) n known.now.names.now }
+    ensures { result ≡ duplicate_type (sheet known.now) i }
+{
+    if !known.is_declared(n) {
         return false;
     }
-    let structs = known::is_struct(names, n);
-    let enums = known::is_enum(names, n);
-    let cxx = known::is_cxx(names, n);
-    if items::item_is(s, ItemKind::Struct, i) || items::item_is(s, ItemKind::Enum, i) {
-        return !cxx | structs | enums;
-    }
-    if items::item_is(s, ItemKind::CxxType, i) {
-        return cxx | (!structs & !enums);
-    }
-    true
+    let structs = known.is_struct(n);
+    let enums = known.is_enum(n);
+    let cxx = known.is_cxx(n);
+    clashes(k, structs, enums, cxx)
 }
 
 // Whether the self type of function i is Self: it is neither looked up nor entered.
@@ -57,7 +62,8 @@ fn key(s: &[u8], i: u16, n: u16) -> usize
     name::COUNT * self_type + n as usize
 }
 
-// Whether a bit of the table is set.
+// Whether a bit of the table is set. Sets of bits stand in three places, as words by value (names), as words of this table, and as bytes behind the
+// collected rows (scratch): what they share is one shift, and a function over the width and the number of words would be longer than its uses.
 fn is_known(keys: &Keys, key: usize) -> bool
     requires { key < key_count }
     ensures { result ≡ (keys.now ∋ key) }
@@ -82,15 +88,15 @@ fn duplicate_function(s: &[u8], keys: &Keys, i: u16, n: u16) -> bool
 }
 
 // Whether item i is a duplicate.
-pub fn duplicate(s: &[u8], names: &Names, keys: &Keys, i: u16, k: ItemKind, n: u16) -> bool
-    requires { KnownItem s.now i (item_number k) n names.now keys.now }
-    ensures { result ≡ duplicate s.now i }
+pub fn duplicate(known: &Known<'_>, keys: &Keys, i: u16, k: ItemKind, n: u16) -> bool
+    requires { KnownItem (sheet known.now) i (item_number k) n known.now.names.now keys.now }
+    ensures { result ≡ duplicate (sheet known.now) i }
 {
     if k.is_type() {
-        return duplicate_type(s, names, i, n);
+        return duplicate_type(known, i, k, n);
     }
     if k.is_function() {
-        return duplicate_function(s, keys, i, n);
+        return duplicate_function(known.s, keys, i, n);
     }
     false
 }

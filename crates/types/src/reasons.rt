@@ -5,6 +5,7 @@ ghost use Rattle.rules.specs.Format.{Accepted};
 ghost use Rattle.row_tables.specs.Tables.{one_of};
 ghost use Rattle.types.specs.Reasons.{
   Tallied,
+  Counted,
   Wants,
   WantsList,
   WantsItem,
@@ -21,12 +22,13 @@ ghost use Rattle.types.specs.Reasons.{
 };
 
 use names::known;
-use names::known::Names;
+use names::known::{Known, Names};
 use row_tables::wants;
 use rules::item::ItemKind;
 use rules::limit::ROWS;
 use rules::row::RowKind;
-use rules::{row, set};
+use rules::set;
+use scratch::Collected;
 use sheet::{functions, items, rows};
 
 // A reason for a name, if there is one. The count stops at its largest, which no sheet reaches, so that no caller owes a bound.
@@ -37,56 +39,8 @@ fn count_name(names: &mut Names, name: Option<u8>)
         return;
     };
     let n = n as u16;
-    let count = known::reasons_for(names, n).saturating_add(1);
+    let count = known::count(names, n).saturating_add(1);
     known::enter_if(names, set::REQUIRED_TRIVIAL, true, n, count);
-}
-
-// A reason for row r, if it is a plain name of an extern C++ type.
-fn insist(s: &[u8], names: &mut Names, wants: &[Option<u8>; ROWS], r: u16)
-    requires { Wants s.now names.old wants.now }
-    ensures { Tallied names.old (of_plain s.now names.old r) names.new }
-{
-    let name = wants::wanted(s, names, wants, r);
-    count_name(names, name);
-}
-
-// The reasons of the rows of the list at a place.
-fn insist_list(s: &[u8], names: &mut Names, wants: &[Option<u8>; ROWS], at: u32)
-    requires { WantsList s.now names.old wants.now at }
-    ensures { Tallied names.old (of_list s.now names.old at) names.new }
-{
-    let count = sheet::pair_at(s, at as usize);
-    for j in 0..count {
-        insist(s, names, wants, items::entry_within(s, at, j));
-    }
-}
-
-// The reason of a return row, if there is one.
-fn insist_return(s: &[u8], names: &mut Names, wants: &[Option<u8>; ROWS], row: u16)
-    requires { Wants s.now names.old wants.now }
-    ensures { Tallied names.old (of_return s.now names.old row) names.new }
-{
-    if row == row::NONE {
-        return;
-    }
-    insist(s, names, wants, row);
-}
-
-// The reasons of item i: fields, or arguments and return.
-fn insist_item(s: &[u8], names: &mut Names, wants: &[Option<u8>; ROWS], i: u16)
-    requires { WantsItem s.now names.old wants.now i }
-    ensures { Tallied names.old (of_item s.now names.old i) names.new }
-{
-    if items::item_is(s, ItemKind::Struct, i) {
-        insist_list(s, names, wants, items::rest(s, i));
-        return;
-    }
-    if !items::is_function(s, i) {
-        return;
-    }
-    let at = functions::return_place(s, i);
-    insist_list(s, names, wants, at + 2);
-    insist_return(s, names, wants, sheet::pair_at(s, at as usize));
 }
 
 // Whether rows of kind k give a reason for the name in them: Box, Vec and slice.
@@ -96,49 +50,118 @@ fn is_holder(k: RowKind) -> bool
     matches!(k, RowKind::RustBox | RowKind::RustVec | RowKind::SliceRef)
 }
 
-// The reason of a collected row: a Box, Vec or slice of a plain name.
-fn insist_row(s: &[u8], names: &mut Names, wants: &[Option<u8>; ROWS], r: u16)
-    requires { Wants s.now names.old wants.now }
-    ensures { Tallied names.old (of_row s.now names.old r) names.new }
-{
-    let Some(k) = rows::kind(s, r) else {
-        return;
-    };
-    if is_holder(k) {
-        insist(s, names, wants, rows::inner(s, r));
-    }
+// The reasons of a sheet as they are counted: in the table of names, by the name that each row wants.
+#[derive(Drop)]
+struct Reasons<'a> {
+    s: &'a [u8],
+    names: &'a mut Names,
+    wants: &'a [Option<u8>; ROWS],
 }
 
-// The reasons of all items.
-fn insist_items(s: &[u8], names: &mut Names, wants: &[Option<u8>; ROWS])
-    requires { WantsItems s.now names.old wants.now }
-    ensures { Tallied names.old (of_items s.now names.old) names.new }
-{
-    let count = items::items(s);
-    for i in 0..count {
-        insist_item(s, names, wants, i);
+impl Reasons<'_> {
+    // A reason for row r, if it is a plain name of an extern C++ type.
+    fn insist(&mut self, r: u16)
+        requires { Wants self.old }
+        ensures { Counted self.old (of_plain self.old.s.now self.old.names.now r) self.new }
+    {
+        let known = Known {
+            s: self.s,
+            names: self.names,
+        };
+        let name = wants::wanted(&known, self.wants, r);
+        count_name(self.names, name);
     }
-}
 
-// The reasons of the n rows that the scratch holds.
-fn insist_rows(s: &[u8], names: &mut Names, wants: &[Option<u8>; ROWS], scratch: &[u8], n: usize)
-    requires { Wants s.now names.old wants.now }
-    ensures { Tallied names.old (of_rows s.now names.old scratch.now n) names.new }
-{
-    for k in 0..n {
-        insist_row(s, names, wants, scratch::row_at(scratch, k));
+    // The reasons of the rows of the list at a place.
+    fn insist_list(&mut self, at: u32)
+        requires { WantsList self.old at }
+        ensures { Counted self.old (of_list self.old.s.now self.old.names.now at) self.new }
+    {
+        let s = self.s;
+        let count = sheet::pair_at(s, at as usize);
+        for j in 0..count {
+            self.insist(items::entry_within(s, at, j));
+        }
+    }
+
+    // The reason of a return row, if there is one.
+    fn insist_return(&mut self, row: Option<u16>)
+        requires { Wants self.old }
+        ensures { Counted self.old (of_return self.old.s.now self.old.names.now row) self.new }
+    {
+        if let Some(r) = row {
+            self.insist(r);
+        }
+    }
+
+    // The reasons of item i: fields, or arguments and return.
+    fn insist_item(&mut self, i: u16)
+        requires { WantsItem self.old i }
+        ensures { Counted self.old (of_item self.old.s.now self.old.names.now i) self.new }
+    {
+        let s = self.s;
+        if items::item_is(s, ItemKind::Struct, i) {
+            self.insist_list(items::rest(s, i));
+            return;
+        }
+        if !items::is_function(s, i) {
+            return;
+        }
+        self.insist_list(functions::args_place(s, i));
+        self.insist_return(functions::return_row(s, i));
+    }
+
+    // The reason of a collected row: a Box, Vec or slice of a plain name.
+    fn insist_row(&mut self, r: u16)
+        requires { Wants self.old }
+        ensures { Counted self.old (of_row self.old.s.now self.old.names.now r) self.new }
+    {
+        let s = self.s;
+        let Some(k) = rows::kind(s, r) else {
+            return;
+        };
+        if is_holder(k) {
+            self.insist(rows::inner(s, r));
+        }
+    }
+
+    // The reasons of all items.
+    fn insist_items(&mut self)
+        requires { WantsItems self.old }
+        ensures { Counted self.old (of_items self.old.s.now self.old.names.now) self.new }
+    {
+        let count = items::items(self.s);
+        for i in 0..count {
+            self.insist_item(i);
+        }
+    }
+
+    // The reasons of the collected rows.
+    fn insist_rows(&mut self, rows: &Collected<'_>)
+        requires { Wants self.old }
+        ensures { Counted self.old (of_rows self.old.s.now self.old.names.now rows.now.scratch.now rows.now.count) self.new }
+    {
+        for k in 0..rows.count {
+            self.insist_row(rows.row(k));
+        }
     }
 }
 
 // All reasons, those of the items first. Without a name in cxx there are none.
-pub fn required_trivial_reasons(s: &[u8], names: &mut Names, scratch: &[u8], n: usize)
+pub fn required_trivial_reasons(s: &[u8], names: &mut Names, rows: &Collected<'_>)
     requires { Accepted s.now }
-    ensures { Tallied names.old (of_all s.now names.old scratch.now n) names.new }
+    ensures { Tallied names.old (of_all s.now names.old rows.now.scratch.now rows.now.count) names.new }
 {
-    if wants::no_cxx(names) {
+    let known = Known { s, names };
+    if wants::no_cxx(&known) {
         return;
     }
-    let wants = wants::wants(s, names);
-    insist_items(s, names, &wants);
-    insist_rows(s, names, &wants, scratch, n);
+    let wants = wants::wants(&known);
+    let mut reasons = Reasons {
+        s,
+        names,
+        wants: &wants,
+    };
+    reasons.insist_items();
+    reasons.insist_rows(rows);
 }

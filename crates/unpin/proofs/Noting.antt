@@ -1,13 +1,13 @@
 -- Reasons to be Unpin, in the cases that the code tells apart: what a turn of a loop notes; that what was noted, one after another, is of each name the last
 -- (`noted-all`); and that without a name in cxx nothing is found (`none_found`).
 -- Assumes nothing.
-use Prim.Native.Nat.{ℕ, ◌*◌, ◌≤◌, ◌<◌}
+use Prim.Native.Nat.{ℕ, ◌*◌, ◌<◌}
 use mathlib.Core.Path.{◌≡◌, refl, sym, ap, ◌∙◌}
 use mathlib.Core.Bool.{Bool, true, false}
 use mathlib.Core.List.{List, [], ◌∷◌, ◌++◌, foldl, append_assoc, append-nil}
 use native.Mathlib.Omega.{arith}
 use native.Mathlib.Decide.{dec_lt}
-use lib.ListN.{length, set, replicate}
+use lib.ListN.{replicate}
 use lib.Seq.{set_out}
 use Rattle.rules.specs.Numbers.{Ref, SliceRef, name_count}
 use Rattle.unpin.specs.declared.UnpinReason.{UnpinReason}
@@ -29,39 +29,26 @@ use Rattle.unpin.proofs.Folding.{fold-none}
 -- ## Turns
 
 -- one more, of a name that is one of the 256 or of none
-noted_one : (u : List (Option UnpinReason)) (n : ℕ) (x : UnpinReason) → Noted u ((n, x) ∷ []) (set u n (Some x))
-noted_one u n x = record { is = refl }
-
-noted-past : (u : List (Option UnpinReason)) (n : ℕ) (x : UnpinReason) → length u ≤ n → Noted u ((n, x) ∷ []) u
-noted-past u n x l = record { is = sym (set_out u n (Some x) l) }
+noted_one : (u : List (Option UnpinReason)) (f : Find) → Noted u (f ∷ []) (stood u f)
+noted_one u f = record { is = refl }
 
 module _ (s : List ℕ) (test : ℕ → Bool) (p : ℕ) {r : ℕ} {yes : Bool} (is_row : r ≡ p) (is_test : yes ≡ test r) {u : List (Option UnpinReason)} where
   pub row-not : yes ≡ false → Noted u (find_row s test p) u
   unfolding find_row if'◌then◌else◌
   row-not f = rw (← is_row, sym is_test ∙ f) fold-none
 
-  module _ (f : yes ≡ true) {q n : ℕ} (is-inner : q ≡ inner s r) (is_name : n ≡ row_name s q) where
-    pub row-noted : Noted u (find_row s test p) (set u n (Some (Row r)))
-    unfolding find_row if'◌then◌else◌
-    row-noted = rw (← is_row, sym is_test ∙ f, ← is-inner, ← is_name) (noted_one u n (Row r))
-
-    pub row-past : length u ≤ n → Noted u (find_row s test p) u
-    unfolding find_row if'◌then◌else◌
-    row-past l = rw (← is_row, sym is_test ∙ f, ← is-inner, ← is_name) (noted-past u n (Row r) l)
+  pub row-noted : yes ≡ true → {q n : ℕ} → q ≡ inner s r → n ≡ row_name s q → Noted u (find_row s test p) (stood u (n, Row r))
+  unfolding find_row if'◌then◌else◌
+  row-noted f {q} {n} is-inner is_name = rw (← is_row, sym is_test ∙ f, ← is-inner, ← is_name) (noted_one u (n, Row r))
 
 module _ (s w : List ℕ) (i : ℕ) {yes : Bool} (test : yes ≡ is_mut_method s (tabled s w) i) {u : List (Option UnpinReason)} where
   pub item-not : yes ≡ false → Noted u (find_item s (tabled s w) i) u
   unfolding find_item if'◌then◌else◌
   item-not f = rw (sym test ∙ f) fold-none
 
-  module _ (f : yes ≡ true) {n : ℕ} (is_name : n ≡ self_type s i) where
-    pub item-noted : {x : ℕ} → x ≡ i → Noted u (find_item s (tabled s w) i) (set u n (Some (Item x)))
-    unfolding find_item if'◌then◌else◌
-    item-noted e = rw (sym test ∙ f, ← is_name, e) (noted_one u n (Item i))
-
-    pub item-past : length u ≤ n → Noted u (find_item s (tabled s w) i) u
-    unfolding find_item if'◌then◌else◌
-    item-past l = rw (sym test ∙ f, ← is_name) (noted-past u n (Item i) l)
+  pub item-noted : yes ≡ true → {n : ℕ} → n ≡ self_type s i → Noted u (find_item s (tabled s w) i) (stood u (n, Item i))
+  unfolding find_item if'◌then◌else◌
+  item-noted f {n} is_name = rw (sym test ∙ f, ← is_name) (noted_one u (n, Item i))
 
 -- ## None at all
 

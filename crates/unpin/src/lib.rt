@@ -5,19 +5,18 @@ ghost use Rattle.std.specs.Prelude.{◌≡◌, ℕ, Bool};
 ghost use Rattle.rules.specs.Format.{Accepted};
 ghost use Rattle.rules.specs.Kinds.{row_number};
 ghost use Rattle.rules.specs.Types.{types_of};
-ghost use Rattle.names.specs.Known.{tabled};
+ghost use Rattle.names.specs.Known.{sheet, types};
 ghost use Rattle.types.specs.Post.{Collectable, Collects};
 ghost use Rattle.unpin.specs.Unpin.{over_extern, is_mut_slice, is_mut_ref, is_mut_method, last_of_all, unpin_of, NumbersBack};
 ghost use Rattle.unpin.specs.UnpinRule.{UnpinRule};
-ghost use Rattle.unpin.specs.Found.{Tells, rows_found, items_found, all_found, Noted};
+ghost use Rattle.unpin.specs.Found.{Tells, rows_found, items_found, all_found, stood, Noted};
 
 use errors::Errors;
-use names::known;
-use names::known::Names;
+use names::known::{Known, NAMES, Names};
 use row_tables::wants;
 use rules::name;
 use rules::row::RowKind;
-use sheet::items::{flag1, flag2};
+use scratch::Collected;
 use sheet::{functions, items, rows};
 
 // Why a C++ name must be Unpin: the row of a slice or of a reference; or the item of a method.
@@ -31,111 +30,109 @@ pub enum UnpinReason {
 #[derive(Clone, Copy)]
 pub struct Gathered {
     pub rows: usize,
-    pub unpin: [Option<UnpinReason>; 256],
+    pub unpin: [Option<UnpinReason>; name::COUNT],
 }
-
-// How many names there are, as wide as a name.
-const NAMES: u16 = name::COUNT as u16;
 
 // Whether row r is of kind k, and over the plain name of an extern C++ type.
 #[tactic(auto, unfolding(crate::specs::Unpin::over_extern))]
-fn over_extern(s: &[u8], names: &Names, k: RowKind, r: u16) -> bool
-    ensures { result ≡ over_extern s.now (tabled s.now names.now) (row_number k) r }
+fn over_extern(known: &Known<'_>, k: RowKind, r: u16) -> bool
+    ensures { result ≡ over_extern (sheet known.now) (types known.now) (row_number k) r }
 {
-    if !rows::is(s, k, r) {
+    if !rows::is(known.s, k, r) {
         return false;
     }
-    let inner = rows::inner(s, r);
-    rows::is(s, RowKind::Ident, inner) && known::is_extern(names, rows::row_name(s, inner))
+    let inner = rows::inner(known.s, r);
+    rows::is(known.s, RowKind::Ident, inner) && known.is_extern(rows::row_name(known.s, inner))
 }
 
 #[tactic(auto, unfolding(crate::specs::Unpin::is_mut_slice))]
-fn is_mut_slice(s: &[u8], names: &Names, r: u16) -> bool
-    ensures { result ≡ is_mut_slice s.now (tabled s.now names.now) r }
+fn is_mut_slice(known: &Known<'_>, r: u16) -> bool
+    ensures { result ≡ is_mut_slice (sheet known.now) (types known.now) r }
 {
-    over_extern(s, names, RowKind::SliceRef, r) && flag1(rows::row_flags(s, r))
+    over_extern(known, RowKind::SliceRef, r) && rows::is_mutable(known.s, r)
 }
 
 // A reference that is mutable and not pinned.
 #[tactic(auto, unfolding(crate::specs::Unpin::is_mut_ref))]
-fn is_mut_ref(s: &[u8], names: &Names, r: u16) -> bool
-    ensures { result ≡ is_mut_ref s.now (tabled s.now names.now) r }
+fn is_mut_ref(known: &Known<'_>, r: u16) -> bool
+    ensures { result ≡ is_mut_ref (sheet known.now) (types known.now) r }
 {
-    if !over_extern(s, names, RowKind::Ref, r) {
-        return false;
-    }
-    let flags = rows::row_flags(s, r);
-    flag1(flags) && !flag2(flags)
+    over_extern(known, RowKind::Ref, r)
+        && rows::is_mutable(known.s, r)
+        && !rows::is_pinned(known.s, r)
 }
 
 // A method whose receiver is mutable and not pinned.
 #[tactic(auto, unfolding(crate::specs::Unpin::is_mut_method))]
-fn is_mut_method(s: &[u8], names: &Names, i: u16) -> bool
-    ensures { result ≡ is_mut_method s.now (tabled s.now names.now) i }
+fn is_mut_method(known: &Known<'_>, i: u16) -> bool
+    ensures { result ≡ is_mut_method (sheet known.now) (types known.now) i }
 {
-    items::is_function(s, i)
-        && functions::is_method(s, i)
-        && functions::receiver_mutable(s, i)
-        && !functions::receiver_pinned(s, i)
-        && known::is_extern(names, functions::self_type(s, i))
+    items::is_function(known.s, i)
+        && functions::is_method(known.s, i)
+        && functions::receiver_mutable(known.s, i)
+        && !functions::receiver_pinned(known.s, i)
+        && known.is_extern(functions::self_type(known.s, i))
 }
 
-// The rows that are a reason, among the n that the scratch holds.
+// A reason of a name, in the place of an earlier one; none of a number that is no name's.
+fn note(reasons: &mut [Option<UnpinReason>; name::COUNT], n: u16, why: UnpinReason)
+    ensures { reasons.new ≡ stood reasons.old (n, why) }
+{
+    if n < NAMES {
+        reasons[n as usize] = Some(why);
+    }
+}
+
+// The collected rows that are a reason.
 fn note_rows<F: Fn(u16) -> bool>(
     s: &[u8],
-    scratch: &[u8],
-    n: usize,
+    rows: &Collected<'_>,
     is_reason: F,
-    reasons: &mut [Option<UnpinReason>; 256],
+    reasons: &mut [Option<UnpinReason>; name::COUNT],
 )
     requires { F.IsAlwaysCallable is_reason }
-    ensures { (test : ℕ → Bool) → Tells (F.post is_reason) test → Noted reasons.old (rows_found s.now test scratch.now n) reasons.new }
+    ensures { (test : ℕ → Bool)
+        → Tells (F.post is_reason) test
+        → Noted reasons.old (rows_found s.now test rows.now.scratch.now rows.now.count) reasons.new }
 {
-    for k in 0..n {
-        let r = scratch::row_at(scratch, k);
+    for k in 0..rows.count {
+        let r = rows.row(k);
         if is_reason(r) {
-            let name = rows::row_name(s, rows::inner(s, r));
-            if name < NAMES {
-                reasons[name as usize] = Some(UnpinReason::Row(r));
-            }
+            let n = rows::row_name(s, rows::inner(s, r));
+            note(reasons, n, UnpinReason::Row(r));
         }
     }
 }
 
 // The methods.
-fn note_items(s: &[u8], names: &Names, reasons: &mut [Option<UnpinReason>; 256])
-    requires { Accepted s.now }
-    ensures { Noted reasons.old (items_found s.now names.now) reasons.new }
+fn note_items(known: &Known<'_>, reasons: &mut [Option<UnpinReason>; name::COUNT])
+    requires { Accepted (sheet known.now) }
+    ensures { Noted reasons.old (items_found (sheet known.now) known.now.names.now) reasons.new }
 {
-    let count = items::items(s);
+    let count = items::items(known.s);
     for i in 0..count {
-        if is_mut_method(s, names, i) {
-            let name = functions::self_type(s, i);
-            if name < NAMES {
-                let item = i as u8;
-                reasons[name as usize] = Some(UnpinReason::Item(item));
-            }
+        if is_mut_method(known, i) {
+            let n = functions::self_type(known.s, i);
+            note(reasons, n, UnpinReason::Item(i as u8));
         }
     }
 }
 
 // The reason that stood last for each name: slices first, then methods, then references. Without a name in cxx there are none.
 pub fn required_unpin_reasons(
-    s: &[u8],
-    names: &Names,
-    scratch: &[u8],
-    n: usize,
-) -> [Option<UnpinReason>; 256]
-    requires { Accepted s.now }
-    ensures { result ≡ last_of_all (all_found s.now names.now scratch.now n) }
+    known: &Known<'_>,
+    rows: &Collected<'_>,
+) -> [Option<UnpinReason>; name::COUNT]
+    requires { Accepted (sheet known.now) }
+    ensures { result ≡ last_of_all (all_found (sheet known.now) known.now.names.now rows.now.scratch.now rows.now.count) }
 {
-    let mut reasons = [None; 256];
-    if wants::no_cxx(names) {
+    let mut reasons = [None; name::COUNT];
+    if wants::no_cxx(known) {
         return reasons;
     }
-    note_rows(s, scratch, n, |r| is_mut_slice(s, names, r), &mut reasons);
-    note_items(s, names, &mut reasons);
-    note_rows(s, scratch, n, |r| is_mut_ref(s, names, r), &mut reasons);
+    note_rows(known.s, rows, |r| is_mut_slice(known, r), &mut reasons);
+    note_items(known, &mut reasons);
+    note_rows(known.s, rows, |r| is_mut_ref(known, r), &mut reasons);
     reasons
 }
 
@@ -148,7 +145,8 @@ pub fn collect(s: &[u8], scratch: &mut [u8], names: &mut Names, cx: &mut Errors<
     ensures rule { UnpinRule s.now result.unpin }
     ensures numbers { NumbersBack result.unpin }
 {
-    let rows = types::collect(s, scratch, names, cx);
-    let unpin = required_unpin_reasons(s, names, scratch, rows);
-    Gathered { rows, unpin }
+    let count = types::collect(s, scratch, names, cx);
+    let rows = Collected { scratch, count };
+    let unpin = required_unpin_reasons(&Known { s, names }, &rows);
+    Gathered { rows: count, unpin }
 }

@@ -34,9 +34,6 @@ module _ (ys : List Diagnostic) (at : ℕ) (bs : List ℕ) where
   unfolding records_in
   over-start = ap (λ (k : ℕ). sets ys at (records_in k bs)) (let z : at - at ≡ 0 = omega arith in z)
 
-  pub over-length : (i : ℕ) → length (over i) ≡ length ys
-  over-length i = length-sets ys at (records_in (i - at) bs)
-
   pub over-one : (i : ℕ) → at ≤ i → i - at < length bs / 8 → set (over i) i (record_in bs (i - at)) ≡ over (i + 1)
   unfolding records_in
   over-one i h l =

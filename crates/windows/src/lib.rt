@@ -1,5 +1,5 @@
-// Windows: of a report's records those from a number on, as many as have room, and the places of a list that they go to. The arithmetic of it, over numbers
-// alone: an answer is not handed on for its total.
+// Windows: of records that stand in bytes as many as a list has room for, and the places of the list that they go to. What is asked of the list and of an
+// answer is a number: its length, its total.
 #![tactic(auto)]
 
 ghost use Rattle.std.specs.Prelude.{◌≡◌, ◌+◌, ◌-◌, ◌/◌};
@@ -17,16 +17,10 @@ pub fn record_from(bytes: &[u8], at: usize, i: usize) -> Diagnostic
     errors::codes::record(bytes, i.saturating_sub(at))
 }
 
-// The place after the last one stored: n records from place `at` on, as far as the bytes that they stand in and the list (`len`) reach.
+// The place after the last one stored: n records from place `at` on, as far as the bytes that they stand in and the list (`len`) reach. The loop of
+// `bridge::store` rests on this clause.
 pub fn end(at: usize, n: usize, len: usize, bytes: usize) -> usize
     ensures { result ≡ at + least3 n (bytes / record_size) (len - at) }
 {
     at + n.min(bytes / RECORD).min(len.saturating_sub(at))
-}
-
-// How many of `total` records there are from number `from` on.
-pub fn left(total: usize, from: usize) -> usize
-    ensures { result ≡ total - from }
-{
-    total.saturating_sub(from)
 }

@@ -7,7 +7,7 @@ use Rattle.improper.proofs.PassTurns.{found_in}
 use Rattle.improper.proofs.one_pass.Given as goal
 
 abbrev pub invariant-loop-k : goal.invariant-loop-k
-invariant-loop-k l = (l.set ≡ l.initial.set) × (l.new ≡ l.initial.new) × (found_in l.s l.set.words l.n l.k ≡ false)
+invariant-loop-k l = (l.set ≡ l.initial.set) × (l.new ≡ l.initial.new) × (found_in l.known.s.now l.set.words l.n l.k ≡ false)
 
 abbrev pub invariant-structs : goal.invariant-structs
-invariant-structs l = Passes l.s l.initial.set.words l.n l.set.words l.new
+invariant-structs l = Passes l.known.s.now l.initial.set.words l.n l.set.words l.new

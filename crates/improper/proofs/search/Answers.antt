@@ -8,12 +8,12 @@ one_pass-requires c = record { given = c.requires; size = ap length c.empty-set.
 
 pub returns-then-not-one_pass : goal.returns-then-not-one_pass
 returns-then-not-one_pass c =
-    let after = searching-on _ _ (searching-start c.args.s.now _ c.empty-set.ensures) _ _ c.one_pass.ensures in
-    searched c.args.s.now c.requires.accepted _ (after.done c.if-not-one_pass.true)
+    let after = searching-on _ _ (searching-start c.args.known.now.s.now _ c.empty-set.ensures) _ _ c.one_pass.ensures in
+    searched c.args.known.now.s.now c.requires.accepted _ (after.done c.if-not-one_pass.true)
 
 pub loop-targets-init : goal.loop-targets-init
 loop-targets-init c = (
-  rw c.if-not-one_pass.false at (searching-on _ _ (searching-start c.args.s.now _ c.empty-set.ensures) _ _ c.one_pass.ensures),
+  rw c.if-not-one_pass.false at (searching-on _ _ (searching-start c.args.known.now.s.now _ c.empty-set.ensures) _ _ c.one_pass.ensures),
   later_first _ _ (ap length c.empty-set.ensures) _ _ _ c.one_pass.ensures c.all_targets-targets.ensures,
 )
 
@@ -32,4 +32,4 @@ loop-targets-preserved c = (
 pub returns : goal.returns
 returns c =
     let after = searching-on _ _ c.loop-targets.invariant.0 _ _ c.one_pass-in-loop-targets.ensures in
-    searched c.args.s.now c.requires.accepted _ (after.done c.loop-targets-test.false)
+    searched c.args.known.now.s.now c.requires.accepted _ (after.done c.loop-targets-test.false)

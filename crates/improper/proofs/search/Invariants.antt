@@ -8,7 +8,7 @@ use Rattle.improper.proofs.Passes.{Searching}
 use Rattle.improper.proofs.search.Given as goal
 
 abbrev pub invariant-loop-targets : goal.invariant-loop-targets
-invariant-loop-targets l = Searching l.s l.set.words true × Later l.s l.set.words l.targets
+invariant-loop-targets l = Searching l.known.s.now l.set.words true × Later l.known.s.now l.set.words l.targets
 
 abbrev pub decreases-loop-targets : goal.decreases-loop-targets
 decreases-loop-targets l = left l.set.words

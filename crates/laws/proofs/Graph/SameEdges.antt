@@ -8,9 +8,10 @@ use mathlib.Core.Bool.{Bool, true, false}
 use mathlib.Core.List.{List, [], ◌∷◌, map}
 use native.Mathlib.Omega.{arith}
 use lib.Dec.{T, eqb, ltb}
-use borrow.Author.Tests.{lt-ltb, ltb-true}
+use borrow.Author.Tests.{eqb-true, lt-ltb, ltb-true}
 use lib.ListN.{get_or, set, replicate}
 use Rattle.rules.specs.Numbers.{no_item, most_items}
+use Rattle.rules.specs.Kinds.{some_unless}
 use Rattle.rules.specs.Base.{if'◌then◌else◌, over}
 use Rattle.rules.specs.Format.{Accepted}
 use Rattle.rules.specs.View.{rows, items, field}
@@ -19,7 +20,8 @@ use Rattle.rules.specs.Walk.{Out, still, join, blamed, seen, finished, field_out
 use Rattle.rules.specs.Tiers.{largest, one_above, longest, tier_at, tiers_of}
 use Rattle.rules.specs.Order.{graph_by}
 use Rattle.rules.specs.Rule3.{IsStruct}
-use Rattle.laws.specs.RowTable.{RowTable, LeadTable, lead_by}
+use Rattle.laws.specs.RowTable.{LeadRows, LeadTable, lead_by, item_of}
+use Rattle.std.specs.Prelude.{Option, Some, None}
 use Rattle.laws.proofs.Base.Counts.{eqb-false}
 use Rattle.laws.proofs.Graph.Chains.{Good}
 use Rattle.laws.proofs.Sheet.Accepted.{few-items, field_row}
@@ -109,33 +111,56 @@ module _ (G : Graph) (n : ℕ) (good : Good G n) (to : (i k : ℕ) → ℕ) (sam
 
 -- ## A table of the items to which rows lead
 
-module _ (s d : List ℕ) where
-  pub lead-at : (r : ℕ) → r < rows s → lead_by s d r ≡ get_or d r 0
+pub item_is : (i : ℕ) → item_of (some_unless no_item i) ≡ i
+unfolding some_unless if'◌then◌else◌
+item_is i = go (eqb i no_item) refl
+  where
+    go : (b : Bool) → eqb i no_item ≡ b → item_of (if' b then None else Some i) ≡ i
+    go true e = sym (eqb-true i no_item e)
+    go false e = refl
+
+-- an entry that has an item
+pub entry-some : (i j : ℕ) → some_unless no_item i ≡ Some j → (i ≡ j) × (i ≢ no_item)
+unfolding some_unless if'◌then◌else◌
+entry-some i j = go (eqb i no_item) refl
+  where
+    go : (b : Bool) → eqb i no_item ≡ b → (if' b then None else Some i) ≡ Some j → (i ≡ j) × (i ≢ no_item)
+    go true e q = absurd cc
+    go false e q = (cc, eqb-false i no_item e)
+
+module _ (s : List ℕ) (d : List (Option ℕ)) where
+  pub lead-at : (r : ℕ) → r < rows s → lead_by s d r ≡ item_of (get_or d r None)
   unfolding lead_by if'◌then◌else◌
   lead-at r l = rw (lt-ltb r (rows s) l)
 
   pub lead-to-structs : LeadTable s d → ToStructs s (lead_by s d)
   unfolding lead_by if'◌then◌else◌
-  lead-to-structs t r = go (ltb r (rows s)) refl
+  lead-to-structs t r = go (ltb r (rows s)) refl (get_or d r None) refl
     where
-      go : (b : Bool) → ltb r (rows s) ≡ b → (if' b then get_or d r 0 else no_item) ≢ no_item → IsStruct s (if' b then get_or d r 0 else no_item)
-      go true e ne = t.to_structs r (ltb-true r (rows s) e) ne
-      go false e ne = absurd (ne refl)
+      go : (b : Bool) → ltb r (rows s) ≡ b → (o : Option ℕ) → get_or d r None ≡ o → (if' b then item_of o else no_item) ≢ no_item
+          → IsStruct s (if' b then item_of o else no_item)
+      go true e None q ne = absurd (ne refl)
+      go true e (Some i) q ne = t.to_structs r i (ltb-true r (rows s) e) q
+      go false e o q ne = absurd (ne refl)
 
   -- the graph of such a table, over n items
   pub table-good : LeadTable s d → (n : ℕ) → items s ≤ n → n ≤ most_items → Good (graph_by s (lead_by s d)) n
   table-good t = good-for s (lead_by s d) (lead-to-structs t)
 
-  module _ (lead : (row : ℕ) → ℕ) (holds : RowTable s lead d) where
+  module _ (lead : (row : ℕ) → ℕ) (holds : LeadRows s lead d) where
     -- a table that holds a function that leads to struct items
     pub lead-table : ToStructs s lead → LeadTable s d
-    lead-table to = record { to_structs = λ r l ne. rw (holds.entries r l) (to r (λ q. ne (holds.entries r l ∙ q))) }
+    lead-table to =
+        record {
+          to_structs =
+              λ r i l e. (let q = entry-some (lead r) i (sym (holds.entries None r l) ∙ e) in subst (λ (x : ℕ). IsStruct s x) q.0 (to r q.1));
+        }
 
     module _ (acc : Accepted s) (t : LeadTable s d) where
       field-leads : (i k : ℕ) → T ((graph_by s lead).struct i) → k < (graph_by s lead).fields i → lead (field s i k) ≡ lead_by s d (field s i k)
       field-leads i k si l =
           let m = field_row s acc i k ((struct_is s i).0 si) l in
-          sym (lead-at (field s i k) m ∙ holds.entries (field s i k) m)
+          sym (lead-at (field s i k) m ∙ ap item_of (holds.entries None (field s i k) m) ∙ item_is (lead (field s i k)))
 
       good : Good (graph_by s (lead_by s d)) most_items
       good = table-good t most_items (few-items s acc) (omega arith)

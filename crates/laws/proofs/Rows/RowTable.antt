@@ -1,22 +1,18 @@
 -- A table over the rows that one pass upward fills, with entries that say anything: rows refer to smaller rows, so what a definition with fuel says of a row
 -- is decided by what it says of smaller rows (`Upward`). Hence any fuel above the row gives the same (`any_fuel`); an entry that is made from entries that
--- are right is right too (`right-next`, from `right-start`); and when the rows are passed, the table is the definition's (`right-all`), as code reads it
--- (`read_is`). A definition without fuel is one that asks no smaller row (`alone`).
+-- are right is right too (`right-more`, from `right-start`; where it is stored, `right-next`); and when the rows are passed, the table is the definition's
+-- (`right-all`), as code reads it (`read_is`). A definition without fuel is one that asks no smaller row (`alone`).
 -- Assumes nothing.
 use Prim.Native.Nat.{ℕ, zero, suc, ◌+◌, ◌≤◌, ◌<◌}
 use mathlib.Core.Path.{◌≡◌, refl, sym, ap, ◌∙◌}
-use mathlib.Core.Logic.{◌≢◌}
 use mathlib.Core.List.{List}
-use mathlib.Core.Bool.{Bool, true, false}
 use native.Mathlib.Omega.{arith}
 use lib.ListN.{length, get_or, set}
 use lib.Seq.{get_or-set_same, get_or-set_other}
-use lib.Dec.{ltb}
 use borrow.Author.Tests.{lt-ltb, le-ltb}
 use Rattle.rules.specs.Numbers.{most_rows}
 use Rattle.rules.specs.Base.{if'◌then◌else◌}
-use Rattle.rules.specs.Diagnostics.{bit}
-use Rattle.laws.specs.RowTable.{TableOf, read_at, is_mark}
+use Rattle.laws.specs.RowTable.{entry_or, TableOf}
 use Rattle.laws.proofs.Base.Counts.{Eq?, same, other, eq?}
 
 -- ## Definitions that look from a row to smaller rows
@@ -47,66 +43,66 @@ module _ {A : Type 0} where
 
 -- ## Entries
 
-module _ (u : List ℕ) (k : ℕ) where
-  pub read-in : k < most_rows → read_at u k ≡ get_or u k 0
-  unfolding read_at if'◌then◌else◌
+module _ {T : Type 0} (none : T) (u : List T) (k : ℕ) where
+  pub read-in : k < most_rows → entry_or none u k ≡ get_or u k none
+  unfolding entry_or if'◌then◌else◌
   read-in l = rw (lt-ltb k most_rows l)
 
-  pub read_out : most_rows ≤ k → read_at u k ≡ 0
-  unfolding read_at if'◌then◌else◌
+  pub read_out : most_rows ≤ k → entry_or none u k ≡ none
+  unfolding entry_or if'◌then◌else◌
   read_out l = rw (le-ltb k most_rows l)
-
-  -- after a store
-  module _ (v : ℕ) where
-    read_same : k < most_rows → k < length u → read_at (set u k v) k ≡ v
-    unfolding read_at if'◌then◌else◌
-    read_same l m = rw (lt-ltb k most_rows l) (get_or-set_same u k v 0 m)
-
-    read-other : (y : ℕ) → y ≢ k → read_at (set u k v) y ≡ read_at u y
-    unfolding read_at
-    read-other y h = ap (λ (x : ℕ). if' ltb y most_rows then x else 0) (get_or-set_other u k y v 0 h)
 
 -- ## Tables
 
--- an entry is a number, and what it says is of type A
-module _ {A : Type 0} (says : ℕ → A) where
-  abbrev pub entry : List ℕ → ℕ → A
-  entry u y = says (read_at u y)
+-- an entry is of type T, and what it says is of type A
+module _ {T A : Type 0} (says : T → A) where
+  -- what is no entry says none
+  module _ (none : T) where
+    abbrev pub entry : List T → ℕ → A
+    entry u y = says (entry_or none u y)
 
-  -- row r, as the code reads it
-  pub read_is : {n : ℕ} {f : ℕ → A} {u : List ℕ} → TableOf says n f u → (r : ℕ) → r < n → entry u r ≡ f r
-  read_is {u = u} table r l = let h = table.few in ap says (read-in u r (omega arith)) ∙ table.entries r l
+    -- row r, as the code reads it
+    pub read_is : {n : ℕ} {f : ℕ → A} {u : List T} → TableOf says n f u → (r : ℕ) → r < n → entry u r ≡ f r
+    read_is {u = u} table r l = let h = table.few in ap says (read-in none u r (omega arith)) ∙ table.entries none r l
 
   -- the table of another definition, where the two agree
-  pub table_same : {n : ℕ} {f g : ℕ → A} {u : List ℕ} → TableOf says n f u → ((r : ℕ) → r < n → f r ≡ g r) → TableOf says n g u
-  table_same table h = record { few = table.few; entries = λ r l. table.entries r l ∙ h r l }
+  pub table_same : {n : ℕ} {f g : ℕ → A} {u : List T} → TableOf says n f u → ((r : ℕ) → r < n → f r ≡ g r) → TableOf says n g u
+  table_same table h = record { few = table.few; entries = λ x r l. table.entries x r l ∙ h r l }
 
   -- the entries below k are right
-  abbrev pub Right : (P : (fuel r : ℕ) → A) (table : List ℕ) (k : ℕ) → Type 0
-  Right P u k = (y f : ℕ) → y < k → y < f → P f y ≡ entry u y
+  abbrev pub Right : (P : (fuel r : ℕ) → A) (table : List T) (k : ℕ) → Type 0
+  Right P u k = (x : T) (y f : ℕ) → y < k → y < f → P f y ≡ says (get_or u y x)
 
-  pub right-start : (P : (fuel r : ℕ) → A) (u : List ℕ) → Right P u 0
-  right-start P u y f l m = absurd (omega arith)
+  pub right-start : (P : (fuel r : ℕ) → A) (u : List T) → Right P u 0
+  right-start P u x y f l m = absurd (omega arith)
 
-  module _ (P : (fuel r : ℕ) → A) (F : (ℕ → A) → ℕ → A) (u : List ℕ) (k : ℕ) where
-    pub right-next : Upward P F k → k < most_rows → k < length u → Right P u k → {v : ℕ} → says v ≡ F (entry u) k → Right P (set u k v) (k + 1)
-    right-next up few long right {v} e y f l m = by f m (eq? y k)
+  module _ (none : T) (P : (fuel r : ℕ) → A) (F : (ℕ → A) → ℕ → A) (u : List T) (k : ℕ) (up : Upward P F k) (few : k < most_rows) where
+    -- where the next entry is one step from those before it
+    pub right-more : Right P u k → ((x : T) → says (get_or u k x) ≡ F (entry none u) k) → Right P u (k + 1)
+    right-more right e x y f l m = by f m (eq? y k)
       where
-        here : (f : ℕ) → k < f → P f k ≡ entry (set u k v) k
+        here : (f : ℕ) → k < f → P f k ≡ says (get_or u k x)
         here zero m = absurd (omega arith)
         here (suc f) m =
-            up.step f ∙ up.smaller (P f) (entry u) (λ z g. right z f g (omega arith)) ∙ sym e ∙ sym (ap says (read_same u k v few long))
+            up.step f
+            ∙ up.smaller (P f) (entry none u) (λ z g. right none z f g (omega arith) ∙ sym (ap says (read-in none u z (omega arith))))
+            ∙ sym (e x)
 
-        by : (f : ℕ) → y < f → Eq? y k → P f y ≡ entry (set u k v) y
+        by : (f : ℕ) → y < f → Eq? y k → P f y ≡ says (get_or u y x)
         by f m (same _ q) = rw q (here f (rw q at m))
-        by f m (other _ q) = right y f (omega arith) m ∙ sym (ap says (read-other u k v y q))
+        by f m (other _ q) = right x y f (omega arith) m
 
-  pub right-all : (P : (fuel r : ℕ) → A) (u : List ℕ) {k n : ℕ} → n ≤ most_rows → k ≡ n → Right P u k → TableOf says n (P n) u
-  right-all P u {n = n} few e right =
-      record { few = few; entries = λ r l. ap says (sym (read-in u r (omega arith))) ∙ sym (right r n (rw e l) l) }
+  -- so it is where that entry is stored
+  module _ (none : T) (P : (fuel r : ℕ) → A) (F : (ℕ → A) → ℕ → A) (u : List T) (k : ℕ) where
+    pub right-next : Upward P F k → k < most_rows → k < length u → Right P u k → {v : T} → says v ≡ F (entry none u) k → Right P (set u k v) (k + 1)
+    right-next up few long right {v} e =
+        right-more none P F (set u k v) k up few (λ x y f l m. right x y f l m ∙ sym (ap says (kept x y l)))
+        (λ x.
+        ap says (get_or-set_same u k v x long) ∙ e ∙ up.smaller (entry none u) (entry none (set u k v)) (λ y l.
+        ap says (read-in none u y (omega arith) ∙ sym (kept none y l) ∙ sym (read-in none (set u k v) y (omega arith)))))
+      where
+        kept : (x : T) (y : ℕ) → y < k → get_or (set u k v) y x ≡ get_or u y x
+        kept x y l = get_or-set_other u k y v x (λ e. absurd (omega arith))
 
--- ## Tables of tests
-
-pub mark-is : (b : Bool) → is_mark (bit b) ≡ b
-mark-is true = refl
-mark-is false = refl
+  pub right-all : (P : (fuel r : ℕ) → A) (u : List T) {k n : ℕ} → n ≤ most_rows → k ≡ n → Right P u k → TableOf says n (P n) u
+  right-all P u {n = n} few e right = record { few = few; entries = λ x r l. sym (right x r n (rw e l) l) }

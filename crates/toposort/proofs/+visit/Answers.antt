@@ -1,41 +1,72 @@
-use Prim.Native.Nat.{ℕ, ◌+◌, ◌<◌}
-use mathlib.Core.Path.{◌≡◌, refl, sym, subst, ◌∙◌}
+-- The answers to the goals of `toposort::visit`. A turn of its loop visits the item to which the word's lowest field leads, or meets it marked, which comes to
+-- a visit too. It succeeds, or fails and is reported: the two ways for a turn to end, and each keeps the invariant (`visited`, `failed`).
+-- Assumes nothing.
+use Prim.Native.Nat.{ℕ, ◌+◌}
+use mathlib.Core.Path.{◌≡◌, refl, subst, ◌∙◌}
+use mathlib.Core.Bool.{true, false}
 use mathlib.Core.List.{List}
 use lib.ListN.{length, length-set}
 use native.Mathlib.Omega.{arith}
 use borrow.Author.Rules.{rules}
-use borrow.Author.Tests.{not-true, not-false}
+use Rattle.rules.specs.declared.Place.TheVariants.{F}
+use Rattle.rules.specs.Diagnostics.{say}
+use Rattle.rules.specs.Graph.{Graph}
 use Rattle.rules.specs.View.{rest}
 use Rattle.rules.specs.Rule3.{IsStruct}
 use Rattle.rules.specs.Walk.{fields_out}
 use Rattle.row_tables.specs.Listed.{LowestOut}
 use Rattle.row_tables.proofs.ListLaws.{field_in, struct-list}
 use Rattle.laws.proofs.Base.Counts.{fresh_set}
+use Rattle.errors.specs.Sink.{Reported}
 use Rattle.errors.specs.declared.Errors.{Errors}
 use Rattle.toposort.specs.declared.Walk.{Walk}
 use Rattle.toposort.specs.Leads.{Led, table_graph, FieldLeads}
-use Rattle.toposort.specs.State.{Visits}
-use Rattle.toposort.proofs.Edges.{few-fields, bounded, struct-below, leads-struct, counted_is}
-use Rattle.toposort.proofs.Parts.{did-still, room-less}
-use Rattle.toposort.proofs.Turns.{going-room, going-fresh, going-len, step_ok, step-bad, visit-seen, visit-new, met-ok, met-bad}
-use Rattle.toposort.proofs.Leading.{Turning, turned, turn_below, turn-going, turn-leads, turn_on, all-leading}
+use Rattle.toposort.specs.State.{Visits, VisitsBy}
+use Rattle.toposort.proofs.Edges.{few-fields, bounded, struct-below, counted_is}
+use Rattle.toposort.proofs.Parts.{did-still}
+use Rattle.toposort.proofs.Turns.{Steps, Going, Visiting, going_on, going-skips, going-room, going-fresh, going-len}
+use Rattle.toposort.proofs.Turns.{put-ok, visits-flag, step_ok, step-bad, seen-marked, visit-seen, visit-new}
+use Rattle.toposort.proofs.Leading.{turned, turn_below, turn-known, turn-leads, turn_on, turning-none, nowhere, there, to-struct}
+use Rattle.std.specs.Prelude.{Option, Some}
 use Rattle.toposort.proofs.+visit.Goals as goal
+use Rattle.toposort.proofs.+visit.Goals.{then-found-eq-NEW, else-found-eq-NEW}
 
--- ## A turn, and where its field leads
+-- ## A turn
 
-module _ {s d : List ℕ} (own : Led s d) {b : Errors} {o : List ℕ} {i : ℕ} {v₀ : Walk} {n k left : ℕ} {b' : Errors} {o' : List ℕ} {v : Walk}
-    (g : Turning (table_graph s d) b o i v₀ n k left b' o' v) {others field : ℕ} (out : LowestOut left others field) where
-  below : field < n
-  below = turn_below (bounded own) g out
+module _ {s : List ℕ} {d : List (Option ℕ)} (own : Led s d) {b : Errors} {o : List ℕ} {i : ℕ} {v₀ : Walk} {n left : ℕ} {b' : Errors} {o' : List ℕ} {v : Walk}
+    (g : Visiting (table_graph s d) b o i v₀ n left b' o' v) where
+  abbrev G : Graph
+  G = table_graph s d
 
-  module _ (h : IsStruct s i) (at x : ℕ) (a : at ≡ rest s i) (f : FieldLeads s d at field x) where
-    to : x ≡ (table_graph s d).to i field
-    to = let n = g.going.all in f _ h a (omega (arith, n, below))
+  -- no field that leads to a struct is left
+  ended : left ≡ 0 → Going G b o i v₀ n (G.fields i) b' o' v
+  ended = turned g.1 (going-skips (bounded own)) g.2
 
-    to-struct : IsStruct s x
-    to-struct =
-        let n = g.going.all in
-        leads-struct own i field x (omega (arith, n, below)) to (λ e. turn-leads (bounded own) g out (sym to ∙ e))
+  module _ {others field : ℕ} (out : LowestOut left others field) where
+    abbrev Next : Walk → Errors → List ℕ → Type 0
+    Next r b'' o'' = Visiting G b o i v₀ n others b'' o'' r
+
+    on : Going G b o i v₀ n field b' o' v
+    on = turn-known g.1 out (going-skips (bounded own)) g.2
+
+    next : {r : Walk} {b'' : Errors} {o'' : List ℕ} → Steps G b' o' v i field r b'' o'' → Next r b'' o''
+    next step = (field + 1, turn_on g.1 out, going_on (bounded own) on _ _ _ (turn_below g.1 out) step)
+
+    -- x is the item to which the field leads, as the code reads it
+    module _ (h : IsStruct s i) {at : ℕ} (a : at ≡ rest s i) {x : ℕ} (f : FieldLeads s d at field (Some x)) where
+      q : x ≡ G.to i field
+      q = there own h a g.1 out f
+
+      -- its visit succeeded, or failed and is reported
+      module _ {r : Walk} {b'' : Errors} {o'' : List ℕ} (e : Visits G b' o' v x r b'' o'') where
+        visit-there : Visits G b' o' v (G.to i field) r b'' o''
+        visit-there = subst (λ (y : ℕ). Visits G b' o' v y r b'' o'') q e
+
+        visited : r.ok ≡ true → Next (put-ok r v.ok) b'' o''
+        visited t = next (step_ok G b' b'' o' o'' v r i field (turn-leads g.1 out) visit-there t)
+
+        failed : {c : Errors} → r.ok ≡ false → Reported b'' (say 2 (F i field)) c → Next (put-ok r false) c o''
+        failed t m = next (step-bad G b' b'' o' o'' v r i field (turn-leads g.1 out) visit-there _ t m)
 
 -- ## Before the loop
 
@@ -49,12 +80,12 @@ returns-then-mark-ne-NEW t c =
 pub bounds-u-place-2 : goal.bounds-u-place-2
 bounds-u-place-2 t c = omega (arith, struct-below c.requires.led c.args.i c.requires.fact.0)
 
-pub unlike-leading-requires : goal.unlike-leading-requires
-unlike-leading-requires t c =
+pub telling-leading-requires : goal.telling-leading-requires
+telling-leading-requires t c =
     let a = c.args in
     let p = c.requires in
     let n = counted_is a.s.now a.i _ _ c.rest-at.ensures c.pair_at-fields.ensures in
-    struct-list a.s.now p.led.accepted a.i _ _ p.fact.0 c.rest-at.ensures n
+    (omega arith, struct-list a.s.now p.led.accepted a.i _ _ p.fact.0 c.rest-at.ensures n)
 
 pub loop-field-init : goal.loop-field-init
 unfolding fields_out
@@ -67,121 +98,90 @@ loop-field-init t c =
     let f = few-fields p.led a.i p.fact.0 in
     let m = fresh_set a.w.marks a.i 0 (omega arith) c.if-mark-ne-NEW.false in (
       0,
+      turning-none p.led p.fact.0 c.rest-at.ensures n cc (c.into_iter-field-iterator.ensures.into_iter_gives, c.telling-leading.ensures),
       record {
-        going =
-            record {
-              all = n;
-              upto = omega arith;
-              long = length-set a.w.marks a.i 1 ∙ lm;
-              room = record { len = omega arith; calls = omega arith };
-              place = omega arith;
-              done = λ f h. record { did = did-still _ _ _; ok = refl };
-            };
-        few = omega (arith, n, f);
-        word = all-leading p.led a.i _ _ _ p.fact.0 c.rest-at.ensures n cc (c.into_iter-field-iterator.ensures.into_iter_gives, c.unlike-leading.ensures);
+        all = n;
+        upto = omega arith;
+        long = length-set a.w.marks a.i 1 ∙ lm;
+        room = record { len = omega arith; calls = omega arith };
+        place = omega arith;
+        done = λ f h. record { did = did-still _ _ _; ok = refl };
       },
     )
 
--- ## A turn, when it is not known yet where its field leads
+-- ## In the loop
 
-pub leads_to-inner-requires : goal.leads_to-inner-requires
-leads_to-inner-requires t c =
+pub leads_to-requires : goal.leads_to-requires
+leads_to-requires t c =
     let p = c.requires in
-    let g = c.loop-field.invariant.1 in
-    (p.led, field_in _ p.led.accepted _ _ _ p.fact.0 c.rest-at.ensures g.going.all c.in-Some.field (below p.led g c.in-Some.ensures.steps))
+    let l = c.loop-field.invariant.1 in
+    (p.led, field_in _ p.led.accepted _ _ _ p.fact.0 c.rest-at.ensures l.all c.in-Some.field (turn_below l c.in-Some.ensures.steps))
 
--- ## When it is known where the field leads
+pub loop-field-preserved-in_default : goal.loop-field-preserved-in_default
+loop-field-preserved-in_default t c =
+    let p = c.requires in elim (nowhere p.led p.fact.0 c.rest-at.ensures c.loop-field.invariant.1 c.in-Some.ensures.steps c.in_default.ensures) [ ]
 
 pub bounds-u-inner : goal.bounds-u-inner
 bounds-u-inner t c =
-    let own = c.requires.led in
-    let g = c.loop-field.invariant.1 in
-    let o = c.in-Some.ensures.steps in
-    let st = to-struct own g o c.requires.fact.0 c.rest-at.result c.leads_to-inner.result c.rest-at.ensures c.leads_to-inner.ensures in
-    struct-below own c.leads_to-inner.result st
+    let p = c.requires in
+    struct-below p.led _ (to-struct p.led p.fact.0 c.rest-at.ensures c.loop-field.invariant.1 c.in-Some.ensures.steps c.in-Some-leads_to.ensures)
 
 pub visit-u-requires : goal.visit-u-requires
 visit-u-requires t c =
-    let own = c.requires.led in
-    let g = c.loop-field.invariant.1 in
-    let o = c.in-Some.ensures.steps in
+    let p = c.requires in
+    let g = c.loop-field.invariant in
+    let out = c.in-Some.ensures.steps in
     let a = c.args in
-    let st = to-struct own g o c.requires.fact.0 c.rest-at.result c.leads_to-inner.result c.rest-at.ensures c.leads_to-inner.ensures in
+    let st = to-struct p.led p.fact.0 c.rest-at.ensures g.1 out c.in-Some-leads_to.ensures in
     let lm : length a.w.marks ≡ 255 = search rules in
-    let on = turn-going (bounded own) g o in
-    let lt = below own g o in
-    let b = struct-below own a.i c.requires.fact.0 in
+    let b = struct-below p.led a.i p.fact.0 in
     let m = fresh_set a.w.marks a.i 0 (omega arith) c.if-mark-ne-NEW.false in
-    let h = going-fresh (bounded own) on in
-    let r = going-room (bounded own) on in
-    (omega arith, (own, (st, room-less r (omega arith))))
-
-pub loop-field-preserved-then-u : goal.loop-field-preserved-then-u
-loop-field-preserved-then-u t c =
-    let own = c.requires.led in
-    let g = c.loop-field.invariant.1 in
-    let o = c.in-Some.ensures.steps in
-    let e = to own g o c.requires.fact.0 c.rest-at.result c.leads_to-inner.result c.rest-at.ensures c.leads_to-inner.ensures in
-    let ne = turn-leads (bounded own) g o in
-    let l = c.loop-field in
-    let G = table_graph c.args.s.now c.args.leads.now in
-    let r = c.visit-u.result in
-    let b = c.visit-u.new.cx in
-    let order = c.visit-u.new.order in
-    let d = subst (λ (x : ℕ). Visits G l.cx l.order l.u x r b order) e c.visit-u.ensures in
-    let step = step_ok G l.cx b l.order order l.u r c.args.i c.in-Some.field ne d c.if-u.true in
-    (c.in-Some.field + 1, turn_on (bounded own) g o _ _ _ step)
-
-pub loop-field-preserved-else-u : goal.loop-field-preserved-else-u
-loop-field-preserved-else-u t c =
-    let own = c.requires.led in
-    let g = c.loop-field.invariant.1 in
-    let o = c.in-Some.ensures.steps in
-    let e = to own g o c.requires.fact.0 c.rest-at.result c.leads_to-inner.result c.rest-at.ensures c.leads_to-inner.ensures in
-    let ne = turn-leads (bounded own) g o in
-    let l = c.loop-field in
-    let G = table_graph c.args.s.now c.args.leads.now in
-    let r = c.visit-u.result in
-    let b = c.visit-u.new.cx in
-    let order = c.visit-u.new.order in
-    let d = subst (λ (x : ℕ). Visits G l.cx l.order l.u x r b order) e c.visit-u.ensures in
-    let step = step-bad G l.cx b l.order order l.u r c.args.i c.in-Some.field ne d _ c.if-u.false c.blame.ensures in
-    (c.in-Some.field + 1, turn_on (bounded own) g o _ _ _ step)
+    let lt = turn_below g.1 out in
+    let h = going-fresh (bounded p.led) (on p.led g out) in
+    let r = going-room (bounded p.led) (on p.led g out) in
+    (omega arith, (p.led, (st, record { len = r.len; calls = omega (arith, r.calls) })))
 
 pub visit_marked-met-requires : goal.visit_marked-met-requires
 visit_marked-met-requires t c =
-    let own = c.requires.led in
-    let g = c.loop-field.invariant.1 in
-    let o = c.in-Some.ensures.steps in
-    let r = going-room (bounded own) (turn-going (bounded own) g o) in
-    omega (arith, r.calls, below own g o)
+    let g = c.loop-field.invariant in
+    let out = c.in-Some.ensures.steps in
+    let r = going-room (bounded c.requires.led) (on c.requires.led g out) in
+    omega (arith, r.calls, turn_below g.1 out)
 
-pub loop-field-preserved-then-not-met : goal.loop-field-preserved-then-not-met
-loop-field-preserved-then-not-met t c =
-    let own = c.requires.led in
-    let g = c.loop-field.invariant.1 in
-    let o = c.in-Some.ensures.steps in
-    let e = to own g o c.requires.fact.0 c.rest-at.result c.leads_to-inner.result c.rest-at.ensures c.leads_to-inner.ensures in
-    let ne = turn-leads (bounded own) g o in
-    let l = c.loop-field in
-    let G = table_graph c.args.s.now c.args.leads.now in
-    let m = c.visit_marked-met.ensures in
-    let failed = not-true _ c.if-not-met.true in
-    let step = met-bad G l.cx l.order l.u c.args.i c.in-Some.field ne _ e c.if-found-eq-NEW.false _ _ m.0 m.1 _ failed c.blame-then-not-met.ensures in
-    (c.in-Some.field + 1, turn_on (bounded own) g o _ _ _ step)
+-- `met`: the struct was visited, or it was marked and its visit is counted. The two goals share no record behind the branches that a lemma could be over.
+pub loop-field-preserved-then-not-u : goal.loop-field-preserved-then-not-u
+loop-field-preserved-then-not-u t c =
+    let p = c.requires in
+    let f = c.in-Some-leads_to.ensures in
+    failed p.led c.loop-field.invariant c.in-Some.ensures.steps p.fact.0 c.rest-at.ensures f met c.if-not-u.true c.blame.ensures
+  where
+    met : let l = c.loop-field in
+        let r = c.if-found-eq-NEW in
+        VisitsBy c.args.s.now c.args.leads.now l.cx l.order (put-ok l.u l.ok) c.in-Some-leads_to.inner r.u r.cx r.order
+    met =
+        elim c.if-found-eq-NEW.branch [
+          | then-found-eq-NEW w ↦ rw (w.cx-is, w.order-is, w.u-is) (visits-flag _ _ c.loop-field.ok w.visit-u.ensures)
+          | else-found-eq-NEW w ↦
+              let m = w.visit_marked-met.ensures in
+              rw (w.cx-is, w.order-is, w.u-is) (seen-marked _ _ _ _ _ w.if-found-eq-NEW.false _ _ m.0 m.1)
+        ]
 
 pub loop-field-preserved : goal.loop-field-preserved
 loop-field-preserved t c =
-    let own = c.requires.led in
-    let g = c.loop-field.invariant.1 in
-    let o = c.in-Some.ensures.steps in
-    let e = to own g o c.requires.fact.0 c.rest-at.result c.leads_to-inner.result c.rest-at.ensures c.leads_to-inner.ensures in
-    let ne = turn-leads (bounded own) g o in
-    let l = c.loop-field in
-    let G = table_graph c.args.s.now c.args.leads.now in
-    let m = c.visit_marked-met.ensures in
-    let step = met-ok G l.cx l.order l.u c.args.i c.in-Some.field ne _ e c.if-found-eq-NEW.false _ _ m.0 m.1 (not-false _ c.if-not-met.false) in
-    (c.in-Some.field + 1, turn_on (bounded own) g o _ _ _ step)
+    let p = c.requires in
+    let f = c.in-Some-leads_to.ensures in
+    visited p.led c.loop-field.invariant c.in-Some.ensures.steps p.fact.0 c.rest-at.ensures f met c.if-not-u.false
+  where
+    met : let l = c.loop-field in
+        let r = c.if-found-eq-NEW in
+        VisitsBy c.args.s.now c.args.leads.now l.cx l.order (put-ok l.u l.ok) c.in-Some-leads_to.inner r.u r.cx r.order
+    met =
+        elim c.if-found-eq-NEW.branch [
+          | then-found-eq-NEW w ↦ rw (w.cx-is, w.order-is, w.u-is) (visits-flag _ _ c.loop-field.ok w.visit-u.ensures)
+          | else-found-eq-NEW w ↦
+              let m = w.visit_marked-met.ensures in
+              rw (w.cx-is, w.order-is, w.u-is) (seen-marked _ _ _ _ _ w.if-found-eq-NEW.false _ _ m.0 m.1)
+        ]
 
 -- ## The end
 
@@ -189,13 +189,13 @@ pub bounds-u-place-3 : goal.bounds-u-place-3
 bounds-u-place-3 t c = omega (arith, struct-below c.requires.led c.args.i c.requires.fact.0)
 
 pub overflow_cast-order : goal.overflow_cast-order
-overflow_cast-order t c = omega (arith, going-len (bounded c.requires.led) c.loop-field.invariant.1.going)
+overflow_cast-order t c = omega (arith, going-len (bounded c.requires.led) (ended c.requires.led c.loop-field.invariant c.in-None.ensures.steps))
 
 pub bounds-order-u : goal.bounds-order-u
-bounds-order-u t c = omega (arith, going-len (bounded c.requires.led) c.loop-field.invariant.1.going)
+bounds-order-u t c = omega (arith, going-len (bounded c.requires.led) (ended c.requires.led c.loop-field.invariant c.in-None.ensures.steps))
 
 pub overflow_add-u-2 : goal.overflow_add-u-2
-overflow_add-u-2 t c = omega (arith, going-len (bounded c.requires.led) c.loop-field.invariant.1.going)
+overflow_add-u-2 t c = omega (arith, going-len (bounded c.requires.led) (ended c.requires.led c.loop-field.invariant c.in-None.ensures.steps))
 
 pub returns : goal.returns
 returns t c =
@@ -203,5 +203,5 @@ returns t c =
     let p = c.requires in
     let b = struct-below p.led a.i p.fact.0 in
     let lm : length a.w.marks ≡ 255 = search rules in
-    let done = turned (bounded p.led) c.loop-field.invariant.1 c.in-None.ensures.steps in
+    let done = ended p.led c.loop-field.invariant c.in-None.ensures.steps in
     visit-new a.w a.i _ _ c.if-mark-ne-NEW.false (omega arith) done (omega arith)

@@ -9,11 +9,10 @@ use Rattle.toposort.proofs.sort.Goals.{then-is_struct, else-is_struct}
 pub loop-i-init : goal.loop-i-init
 loop-i-init c = sorting-none _ _
 
-pub visit-w-requires : goal.visit-w-requires
-visit-w-requires c =
+pub visit-w-requires-clause-fact : goal.visit-w-requires-clause-fact
+visit-w-requires-clause-fact c =
     let st = (struct_is c.args.s.now c.loop-i.i).0 (holds (sym c.is_struct.ensures ∙ c.if-is_struct.true)) in
-    let room = sorting-room (bounded c.requires) c.loop-i.invariant c.loop-i-test.true in
-    record { led = c.requires; fact = (st, room) }
+    (st, sorting-room (bounded c.requires) c.loop-i.invariant c.loop-i-test.true)
 
 pub loop-i-preserved : goal.loop-i-preserved
 loop-i-preserved c =

@@ -1,36 +1,44 @@
-use Prim.Native.Nat.{◌<◌}
-use mathlib.Core.Path.{◌≡◌, refl, ap, ◌∙◌}
-use lib.ListN.{get_or}
+use Prim.Native.Nat.{◌+◌}
 use native.Mathlib.Omega.{arith}
-use Rattle.rules.specs.View.{field_count}
-use Rattle.rules.specs.Tiers.{largest}
-use Rattle.laws.specs.TierPass.{up}
-use Rattle.toposort.specs.Leads.{table_graph}
-use Rattle.row_tables.proofs.ListLaws.{field_in}
-use Rattle.toposort.proofs.Edges.{counted_is, leads-below}
-use Rattle.toposort.proofs.TierTurns.{largest-turn}
+use Rattle.row_tables.proofs.ListLaws.{field_in, struct-list}
+use Rattle.toposort.proofs.Edges.{counted_is, struct-below}
+use Rattle.toposort.proofs.Leading.{turned, turn_below, turn-known, turn-leads, turn_on, turning-none, nowhere, there, to-struct}
+use Rattle.toposort.proofs.TierTurns.{best-none, best-skips, best-more}
 use Rattle.toposort.proofs.tier_from.Goals as goal
 
-pub loop-j-init : goal.loop-j-init
-unfolding largest
-loop-j-init c = (counted_is c.args.s.now c.args.i _ _ c.rest-at.ensures c.pair_at-fields.ensures, λ t h. refl)
+pub telling-requires : goal.telling-requires
+telling-requires c =
+    let n = counted_is c.args.s.now c.args.i _ _ c.rest-at.ensures c.pair_at-fields.ensures in
+    (omega arith, struct-list c.args.s.now c.requires.0.accepted c.args.i _ _ c.requires.1 c.rest-at.ensures n)
 
-pub leads_to-inner-requires : goal.leads_to-inner-requires
-leads_to-inner-requires c =
-    (c.requires.0, field_in c.args.s.now c.requires.0.accepted c.args.i _ _ c.requires.1 c.rest-at.ensures c.loop-j.invariant.0 c.loop-j.j c.loop-j-test.true)
+pub loop-j-init : goal.loop-j-init
+loop-j-init c =
+    let n = counted_is c.args.s.now c.args.i _ _ c.rest-at.ensures c.pair_at-fields.ensures in
+    (0, turning-none c.requires.0 c.requires.1 c.rest-at.ensures n cc (c.into_iter-j-iterator.ensures.into_iter_gives, c.telling.ensures), best-none _ _ _)
+
+pub leads_to-requires : goal.leads_to-requires
+leads_to-requires c =
+    let p = c.requires in
+    let l = c.loop-j.invariant.1 in
+    (p.0, field_in _ p.0.accepted _ _ _ p.1 c.rest-at.ensures l.all c.in-Some.j (turn_below l c.in-Some.ensures.steps))
+
+pub loop-j-preserved-in_default : goal.loop-j-preserved-in_default
+loop-j-preserved-in_default c =
+    let p = c.requires in elim (nowhere p.0 p.1 c.rest-at.ensures c.loop-j.invariant.1 c.in-Some.ensures.steps c.in_default.ensures) [ ]
+
+pub bounds-tiers-inner : goal.bounds-tiers-inner
+bounds-tiers-inner c =
+    let p = c.requires in
+    struct-below p.0 _ (to-struct p.0 p.1 c.rest-at.ensures c.loop-j.invariant.1 c.in-Some.ensures.steps c.in-Some-leads_to.ensures)
 
 pub loop-j-preserved : goal.loop-j-preserved
 loop-j-preserved c =
-    let lt : c.loop-j.j < field_count c.args.s.now c.args.i = omega (arith, c.loop-j.invariant.0, c.loop-j-test.true) in
-    let e = c.leads_to-inner.ensures c.args.i c.requires.1 c.rest-at.ensures lt in
-    let g = table_graph c.args.s.now c.args.leads.now in
-    let b = leads-below c.requires.0 c.args.i c.loop-j.j lt in (
-      c.loop-j.invariant.0,
-      λ t u. largest-turn t c.args.ups.now g c.args.i c.loop-j.j _ _ _ u (c.loop-j.invariant.1 t u) e
-          (omega (arith, e, b)) c.max-best.ensures,
-    )
+    let p = c.requires in
+    let l = c.loop-j.invariant.1 in
+    let out = c.in-Some.ensures.steps in
+    let f = c.in-Some-leads_to.ensures in
+    let best = turn-known l out (best-skips _ _ _) c.loop-j.invariant.2 in
+    (c.in-Some.j + 1, turn_on l out, best-more _ _ _ (there p.0 p.1 c.rest-at.ensures l out f) (turn-leads l out) c.above.ensures c.max-best.ensures best)
 
 pub returns : goal.returns
-returns c t u =
-    let z : c.loop-j.j ≡ field_count c.args.s.now c.args.i = omega (arith, c.loop-j.invariant.0, c.loop-j.auto.j-end, c.loop-j-test.false) in
-    c.loop-j.invariant.1 t u ∙ ap (largest (λ x. up (get_or t x 0)) (table_graph c.args.s.now c.args.leads.now) c.args.i) z
+returns c = turned c.loop-j.invariant.1 (best-skips _ _ _) c.loop-j.invariant.2 c.in-None.ensures.steps

@@ -1,6 +1,4 @@
-use mathlib.Core.Path.{◌≡◌, refl, sym, ap, ◌∙◌}
-use lib.ListN.{replicate}
-use native.Mathlib.Omega.{arith}
+use mathlib.Core.Path.{refl, sym, ◌∙◌}
 use Rattle.laws.specs.TierPass.{start_to}
 use Rattle.toposort.specs.Leads.{table_graph}
 use Rattle.toposort.proofs.TierTurns.{start-struct, start-other}
@@ -19,8 +17,3 @@ loop-i-preserved c d =
       | then-is_struct w ↦ w.tiers-is ∙ start-struct G _ c.loop-i.i _ h (sym c.is_struct.ensures ∙ w.if-is_struct.true)
       | else-is_struct w ↦ w.tiers-is ∙ start-other G _ c.loop-i.i _ h (sym c.is_struct.ensures ∙ w.if-is_struct.false)
     ]
-
-pub returns : goal.returns
-returns c d =
-    let e : c.loop-i.i ≡ 255 = omega arith in
-    c.loop-i.invariant d ∙ ap (λ n. start_to (table_graph c.args.s.now d) n (replicate 255 0)) e

@@ -3,10 +3,11 @@
 use Prim.Native.Nat.{ℕ}
 use mathlib.Core.Path.{◌≡◌}
 use mathlib.Core.List.{List}
+use Rattle.std.specs.Prelude.{Option}
 use lib.ListN.{replicate}
 use Rattle.laws.specs.TierPass.{start_to}
 use Rattle.toposort.specs.Leads.{table_graph}
 use Rattle.toposort.proofs.unknown_tiers.Given as goal
 
 abbrev pub invariant-loop-i : goal.invariant-loop-i
-invariant-loop-i l = (d : List ℕ) → l.tiers ≡ start_to (table_graph l.s d) l.i (replicate 255 0)
+invariant-loop-i l = (d : List (Option ℕ)) → l.tiers ≡ start_to (table_graph l.s d) l.i (replicate 255 0)

@@ -1,6 +1,6 @@
 -- `typecheck::check_api` meets its contract: an accepted sheet has no item whose number is no kind's. Assumes nothing.
 use Rattle.std.proofs.Common.{sym, ◌∙◌, arith}
-use Rattle.rules.specs.Kinds.{item_kind-back, item_kind-past}
+use Rattle.rules.proofs.KindLaws.{item_kind-back, item_kind-past}
 use Rattle.laws.proofs.Sheet.Accepted.Items.{item-of}
 use Rattle.typecheck.proofs.check_api.Goals as goal
 

@@ -10,8 +10,8 @@ use Rattle.typecheck.proofs.check_kind.Goals as goal
 pub check_api_fn-requires : goal.check_api_fn-requires
 check_api_fn-requires c =
     elim c.in-CxxFunction.is [
-      | inl e ↦ function-given c.requires.given (c.requires.kind_is ∙ ap item_number e) refl
-      | inr e ↦ function-given c.requires.given (c.requires.kind_is ∙ ap item_number e) refl
+      | inl e ↦ function-given c.requires.right (c.requires.kind_is ∙ ap item_number e) refl
+      | inr e ↦ function-given c.requires.right (c.requires.kind_is ∙ ap item_number e) refl
     ]
 
 pub returns-in-Include : goal.returns-in-Include

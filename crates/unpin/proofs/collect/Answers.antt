@@ -11,9 +11,9 @@ use Rattle.unpin.proofs.collect.Goals as goal
 pub returns : goal.returns
 returns c =
     let e : c.required_unpin_reasons-unpin.result ≡ unpin_of c.args.s.now (types_of c.args.s.now) =
-    unpin-is c.collect-rows.ensures c.required_unpin_reasons-unpin.ensures in
+    unpin-is c.collect-count.ensures c.required_unpin_reasons-unpin.ensures in
     record {
-      collects = c.collect-rows.ensures;
+      collects = c.collect-count.ensures;
       reasons = e;
       rule = rw e (unpin-rule c.args.s.now c.requires.accepted);
       numbers = rw e (unpin-back c.args.s.now c.requires.accepted);

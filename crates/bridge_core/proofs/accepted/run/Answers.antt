@@ -3,7 +3,7 @@
 use native.Mathlib.Omega.{arith}
 use borrow.Author.Rules.{rules}
 use mathlib.Core.Path.{◌∙◌, refl}
-use Rattle.toposort.proofs.Callers.{plain-led, plain-ordered}
+use Rattle.toposort.proofs.Callers.{plain-led, plain-few, plain-ordered}
 use Rattle.bridge_core.proofs.Whole.{given, len-few, checked}
 use Rattle.bridge_core.proofs.accepted.run.Goals as goal
 
@@ -13,8 +13,13 @@ leads-led-requires c = record { accepted = c.requires.accepted; own = c.collect-
 pub sort-sorted-requires : goal.sort-sorted-requires
 sort-sorted-requires c = plain-led c.leads-led.ensures c.requires.accepted
 
+pub shared_ref_as_front-tiers : goal.shared_ref_as_front-tiers
+shared_ref_as_front-tiers c = plain-few c.leads-led.ensures c.sort-sorted.ensures c.requires.accepted
+
 pub tiers-tiers-requires : goal.tiers-tiers-requires
-tiers-tiers-requires c = record { led = plain-led c.leads-led.ensures c.requires.accepted; ordered = plain-ordered c.leads-led.ensures c.sort-sorted.ensures }
+tiers-tiers-requires c =
+    let led = c.leads-led.ensures in
+    record { led = plain-led led c.requires.accepted; ordered = plain-ordered led c.sort-sorted.ensures c.requires.accepted }
 
 pub looks-looked-requires : goal.looks-looked-requires
 looks-looked-requires c = c.requires.accepted

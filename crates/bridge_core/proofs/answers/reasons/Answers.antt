@@ -11,8 +11,8 @@ loop-n-init c = counted_start _
 
 pub loop-n-preserved : goal.loop-n-preserved
 loop-n-preserved c =
-    ap (λ (l : List ℕ). set l c.loop-n.n c.reasons_for.result) c.loop-n.invariant
-    ∙ counted-more c.args.table.now c.loop-n.n (search rules) c.reasons_for.ensures
+    ap (λ (l : List ℕ). set l c.loop-n.n c.count.result) c.loop-n.invariant
+    ∙ counted-more c.args.table.now c.loop-n.n (search rules) c.count.ensures
 
 pub returns : goal.returns
 returns c = c.loop-n.invariant ∙ counted-all c.args.table.now c.loop-n.n (search rules)

@@ -1,12 +1,16 @@
--- `errors::codes::record` reads record j where the bytes have it.
+-- `errors::codes::record`: a record that the bytes have is read from its chunk; past the last chunk there is none.
 -- Assumes nothing.
-use borrow.Author.Rules.{rules}
+use mathlib.Core.List.{[]}
 use mathlib.Core.Path.{◌∙◌}
-use Rattle.errors.proofs.Inverse.{record-in, record-past}
+use native.Mathlib.Omega.{arith}
+use Rattle.errors.proofs.Inverse.{record-chunk, record-past}
 use Rattle.errors.proofs.codes.record.Goals as goal
 
-pub returns-then-j-bytes : goal.returns-then-j-bytes
-returns-then-j-bytes c = c.record_at.ensures ∙ record-in c.args.bytes.now c.args.j (search rules)
+pub returns-in-Some : goal.returns-in-Some
+returns-in-Some c =
+    let there = c.in-Some.ensures.lookup.3 in
+    c.read.ensures ∙ record-chunk c.args.bytes.now c.args.j c.as_chunks.ensures.front (omega (arith, there.0, c.as_chunks.ensures.front_len)) (there.1 [])
 
-pub returns : goal.returns
-returns c = c.blank.ensures ∙ record-past c.args.bytes.now c.args.j (search rules)
+pub returns-in-None : goal.returns-in-None
+returns-in-None c =
+    c.blank.ensures ∙ record-past c.args.bytes.now c.args.j (omega (arith, c.in-None.ensures.lookup.3, c.as_chunks.ensures.front_len))

@@ -4,4 +4,4 @@ use Rattle.improper.specs.Targets.{LeadsBelow}
 use Rattle.improper.proofs.targets.all_targets.Given as goal
 
 abbrev pub invariant-loop-n : goal.invariant-loop-n
-invariant-loop-n l = LeadsBelow l.s l.found.words l.n l.targets
+invariant-loop-n l = LeadsBelow l.known.s.now l.found.words l.n l.targets

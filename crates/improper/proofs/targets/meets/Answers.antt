@@ -10,11 +10,11 @@ loop-q-init c = λ e j l. absurd (omega arith)
 pub loop-q-preserved : goal.loop-q-preserved
 loop-q-preserved c =
     λ e.
-    let none = neither c.loop-q.met (shares c.args.words c.args.found.words c.loop-q.q) e in
-    below_more (λ j. shares c.args.words c.args.found.words j ≡ false) c.loop-q.q (c.loop-q.invariant none.0) none.1
+    let none = neither c.loop-q.met (shares c.args.targets.now.words c.args.found.now.words c.loop-q.q) e in
+    below_more (λ j. shares c.args.targets.now.words c.args.found.now.words j ≡ false) c.loop-q.q (c.loop-q.invariant none.0) none.1
 
 pub returns : goal.returns
 returns c =
     λ e.
-    let long : length c.args.words ≡ 4 = search rules in
+    let long : length c.args.targets.now.words ≡ 4 = search rules in
     apart _ _ long (λ q l. c.loop-q.invariant e q (omega arith))

@@ -5,4 +5,4 @@ use Rattle.improper.proofs.Apart.{shares}
 use Rattle.improper.proofs.targets.meets.Given as goal
 
 abbrev pub invariant-loop-q : goal.invariant-loop-q
-invariant-loop-q l = l.met ≡ false → (j : ℕ) → j < l.q → shares l.words l.found.words j ≡ false
+invariant-loop-q l = l.met ≡ false → (j : ℕ) → j < l.q → shares l.targets.words l.found.words j ≡ false

@@ -5,4 +5,4 @@ use Rattle.improper.specs.Targets.{LeadsTo}
 use Rattle.improper.proofs.targets.targets_of.Given as goal
 
 abbrev pub invariant-loop-k : goal.invariant-loop-k
-invariant-loop-k l = (length l.words ≡ 4) × LeadsTo l.s l.n l.k l.words
+invariant-loop-k l = (length l.set.words ≡ 4) × LeadsTo l.known.s.now l.n l.k l.set.words

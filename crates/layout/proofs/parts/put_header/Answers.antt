@@ -1,10 +1,9 @@
 -- `layout::parts::put_header` stores verdict, total and count one after another.
 -- Assumes nothing.
 use Rattle.layout.specs.Layout.{header_bytes}
-use Rattle.errors.specs.Bytes.{low2, low4, low8}
 use Rattle.errors.proofs.Stores.{also}
 use Rattle.layout.proofs.parts.put_header.Goals as goal
 
 pub returns : goal.returns
-unfolding header_bytes low8 low4 low2
+unfolding header_bytes
 returns c = also (also c.put_verdict.ensures c.put_low.ensures) c.put_low-2.ensures

@@ -1,8 +1,5 @@
 -- `layout::parts::put_structs` stores order and tiers one after another; that the lists are as long as declared comes with the answer.
 -- Assumes nothing.
-use mathlib.Core.Path.{◌≡◌}
-use lib.ListN.{length}
-use native.Mathlib.Omega.{arith}
 use borrow.Author.Rules.{rules}
 use Rattle.layout.specs.Layout.{structs_bytes}
 use Rattle.errors.proofs.Stores.{also, sized}
@@ -10,8 +7,4 @@ use Rattle.layout.proofs.parts.put_structs.Goals as goal
 
 pub returns : goal.returns
 unfolding structs_bytes
-returns c =
-    let answer = c.args.answer in
-    let places : length answer.order ≡ 255 = search rules in
-    let items : length answer.tiers ≡ 255 = search rules in
-    also (sized {n = 256} c.put_bytes.ensures (omega arith)) (sized {n = 256} c.put_bytes-2.ensures (omega arith))
+returns c = also (sized {n = 256} c.put_bytes.ensures (search rules)) (sized {n = 256} c.put_bytes-2.ensures (search rules))

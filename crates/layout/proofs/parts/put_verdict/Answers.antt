@@ -1,12 +1,11 @@
 -- `layout::parts::put_verdict` stores number, zeros and position one after another.
 -- Assumes nothing.
 use Rattle.errors.proofs.Stores.{meant, also}
-use Rattle.errors.specs.Bytes.{low2, low4, low8}
 use Rattle.layout.specs.Layout.{verdict_bytes}
 use Rattle.layout.proofs.parts.put_verdict.Goals as goal
 
 pub returns : goal.returns
-unfolding verdict_bytes low8 low4 low2
+unfolding verdict_bytes
 returns c =
     meant (also (also c.put.ensures c.put_low.ensures) c.put_low-2.ensures)
     (rw (c.told-number.ensures.number, c.told-number.ensures.position))

@@ -6,7 +6,7 @@ use Rattle.lines.proofs.Laws.{meant, within}
 use Rattle.lines.proofs.Text.put_answer.Goals as goal
 
 pub returns-in-Err : goal.returns-in-Err
-returns-in-Err c = within (meant c.put_refusal.ensures (rw c.number.ensures (text-refused c.args.answer.now _ c.in-Err.is))) (omega arith)
+returns-in-Err c = within (meant c.put_refusal.ensures (text-refused c.args.answer.now _ c.in-Err.is)) (omega arith)
 
 pub returns-in-Ok : goal.returns-in-Ok
 returns-in-Ok c =

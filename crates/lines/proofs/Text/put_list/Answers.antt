@@ -1,7 +1,7 @@
 use native.Mathlib.Omega.{arith}
 use borrow.Author.Rules.{rules}
 use Rattle.rules.specs.Text.{spaced}
-use Rattle.lines.proofs.Laws.{start, turn, whole}
+use Rattle.lines.proofs.Laws.{start, turn}
 use Rattle.lines.proofs.Text.put_list.Goals as goal
 
 pub loop-n-init : goal.loop-n-init
@@ -9,6 +9,3 @@ loop-n-init c = start spaced _
 
 pub loop-n-preserved : goal.loop-n-preserved
 loop-n-preserved c = turn spaced c.args.list.now c.loop-n.n-index 0 (search rules) c.loop-n.invariant c.put_number.ensures (omega arith)
-
-pub returns : goal.returns
-returns c = whole spaced c.args.list.now c.loop-n.n-index c.loop-n.invariant (omega arith)

@@ -8,11 +8,11 @@ use Rattle.lines.proofs.Text.put_word.Goals as goal
 
 pub returns : goal.returns
 returns c =
-    let copy = c.copy_from_slice.ensures.after in
-    let at = c.args.self.now.len in record {
-      stored = copied at copy (omega arith);
+    let stored = copied {b = c.args.self.now.out.now} {xs = c.args.word.now} c.args.self.now.len c.copy_from_slice.ensures.after (omega arith) in
+    record {
+      stored = stored;
       reached = refl;
       few = omega arith;
-      long = as-long (copied at copy (omega arith));
+      long = as-long stored;
       kept = refl;
     }

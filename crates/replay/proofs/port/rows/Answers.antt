@@ -8,8 +8,8 @@ use Rattle.replay.proofs.port.rows.Goals as goal
 pub collect-requires : goal.collect-requires
 collect-requires c = runnable _ _ _ (sym c.in-Ok.ensures)
 
-pub returns-in-Err : goal.returns-in-Err
-returns-in-Err c = no_rows (sym c.in-Err.ensures)
+pub returns-in-Err-clause-rows : goal.returns-in-Err-clause-rows
+returns-in-Err-clause-rows c = no_rows (sym c.in-Err.ensures)
 
-pub returns-in-Ok : goal.returns-in-Ok
-returns-in-Ok c = some-rows (sym c.in-Ok.ensures) c.collect.ensures
+pub returns-in-Ok-clause-rows : goal.returns-in-Ok-clause-rows
+returns-in-Ok-clause-rows c = some-rows (sym c.in-Ok.ensures) c.collect.ensures.rows

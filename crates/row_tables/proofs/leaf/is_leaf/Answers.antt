@@ -1,12 +1,9 @@
 -- `row_tables::leaf::is_leaf` meets its contract: by the kind, and a number that is no kind's is no leaf's.
 -- Assumes nothing.
-use Rattle.std.proofs.Common.{sym, ap, ◌∙◌}
+use Rattle.std.proofs.Common.{rules}
 use Rattle.laws.specs.Kinds.{leaf}
-use Rattle.row_tables.proofs.RowKinds.{kind-of, no-leaf}
+use Rattle.row_tables.proofs.RowKinds.{kind_passes, no-leaf}
 use Rattle.row_tables.proofs.leaf.is_leaf.Goals as goal
 
-pub returns-in-Some : goal.returns-in-Some
-returns-in-Some c = c.is_leaf_kind.ensures ∙ ap leaf (sym (kind-of c.kind.ensures c.in-Some.is))
-
-pub returns-in-None : goal.returns-in-None
-returns-in-None c = sym (no-leaf _ c.kind.ensures c.in-None.is)
+pub returns : goal.returns
+returns c = kind_passes leaf _ _ _ _ c.kind.ensures c.is_some_and.ensures (λ k p. search rules) (no-leaf _ c.kind.ensures)

@@ -16,7 +16,7 @@ returns-then-is_leaf c = rw (shown-leaf _ _ _ (sym c.is_leaf.ensures ∙ c.if-is
 pub returns-then-is : goal.returns-then-is
 unfolding is
 returns-then-is c =
-    rw (c.is_marked_return-returned.ensures, c.any_marked_in.ensures, c.fn_return.ensures, c.offset.ensures)
+    rw (c.is_marked_return-returned.ensures, c.any_marked_in.ensures, c.fn_return.ensures, c.fn_args_place.ensures)
     (any-fn _ _ (marked _) (eqb-true _ _ (sym c.is.ensures ∙ c.if-is.true)))
 
 pub returns : goal.returns

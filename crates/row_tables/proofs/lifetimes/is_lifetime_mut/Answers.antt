@@ -7,7 +7,7 @@ use Rattle.row_tables.proofs.lifetimes.is_lifetime_mut.Goals as goal
 
 pub returns-then-is : goal.returns-then-is
 unfolding is_lifetime_mut
-returns-then-is c = if-taken _ _ c.if-is.true (rw c.row_flags.ensures at c.flag1.ensures) (rw (c.is.ensures, c.is-2.ensures))
+returns-then-is c = if-taken _ _ c.if-is.true c.is_mutable.ensures (rw (c.is.ensures, c.is-2.ensures))
 
 pub returns-then-not-is : goal.returns-then-not-is
 unfolding is_lifetime_mut

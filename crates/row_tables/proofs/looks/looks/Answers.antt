@@ -16,8 +16,8 @@ upward-requires c = (omega arith, (rw c.rows.ensures (sheet-of _ c.requires).few
 
 pub returns : goal.returns
 returns c =
-    let s = c.args.s.now in
-    let t = tabled s c.args.names.now in
+    let s = c.args.known.now.s.now in
+    let t = tabled s c.args.known.now.names.now in
     let few = (sheet-of s c.requires).few-rows in
     made-says _ _ look_of Proper _ few _ (rw c.rows.ensures at c.upward.ensures) (look_row s t) (look_step s t) (look_up s c.requires t)
     (λ b r v l k. search rules)

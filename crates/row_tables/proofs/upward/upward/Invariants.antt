@@ -5,4 +5,4 @@ use Rattle.row_tables.specs.Upward.{MadeUpward}
 use Rattle.row_tables.proofs.upward.upward.Given as goal
 
 abbrev pub invariant-loop-r : goal.invariant-loop-r
-invariant-loop-r g l = (length l.table ≡ 1024) × MadeUpward g.F.Fn l.step l.r l.table
+invariant-loop-r g l = (length l.table ≡ 1024) × MadeUpward g.F.Fn l.step l.r l.fn.none l.table

@@ -11,5 +11,5 @@ upward-requires c = (omega arith, (omega (arith, c.few_rows.ensures), search of_
 
 pub returns : goal.returns
 returns c =
-    let few : min (rows c.args.s.now) 1024 ≤ 1024 = omega arith in
+    let few : min (rows c.args.known.now.s.now) 1024 ≤ 1024 = omega arith in
     made-alone _ _ one_of None _ few _ (rw c.few_rows.ensures at c.upward.ensures) _ (λ b r v l k. search rules)

@@ -1,9 +1,6 @@
 use native.Mathlib.Omega.{arith}
-use Rattle.sheet.proofs.FreshLaws.{key-start, key-more, key-end}
+use Rattle.sheet.proofs.FreshLaws.{key-more, key-end}
 use Rattle.sheet.proofs.fresh_rows.keys_of.Goals as goal
-
-pub loop-j-init : goal.loop-j-init
-loop-j-init c = (key-start _ _ _ _, key-start _ _ _ _)
 
 pub loop-j-preserved : goal.loop-j-preserved
 loop-j-preserved c =

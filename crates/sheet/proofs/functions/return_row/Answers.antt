@@ -5,4 +5,4 @@ use Rattle.sheet.proofs.functions.return_row.Goals as goal
 
 pub returns : goal.returns
 unfolding return
-returns c = rw (c.pair_at.ensures, c.return_place.ensures)
+returns c = rw (c.return_at.ensures, c.return_place.ensures)

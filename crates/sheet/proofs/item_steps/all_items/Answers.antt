@@ -1,12 +1,8 @@
 -- Assumes nothing.
 use Rattle.std.proofs.Common.{rules, sym, ◌∙◌}
-use native.Mathlib.Nat.{sub-zero}
 use Rattle.std.proofs.lemmas.Result.{err_from_is_err_and}
 use Rattle.sheet.proofs.StepLaws.{each-stop, each-go, each-end}
 use Rattle.sheet.proofs.item_steps.all_items.Goals as goal
-
-pub loop-i-init : goal.loop-i-init
-loop-i-init c = (rw sub-zero, search rules)
 
 pub returns-in_err-here : goal.returns-in_err-here
 returns-in_err-here c =

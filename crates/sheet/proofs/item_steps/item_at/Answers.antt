@@ -2,7 +2,7 @@
 -- Assumes nothing.
 use Rattle.std.proofs.Common.{sym, ◌∙◌}
 use Rattle.std.proofs.lemmas.Result.{err_from_is_err_and}
-use Rattle.rules.specs.Kinds.{item_kind-back, item_kind-past}
+use Rattle.rules.proofs.KindLaws.{item_kind-back, item_kind-past}
 use Rattle.sheet.proofs.ItemLaws.{item-past, item-offset, item_refused, item-go}
 use Rattle.sheet.proofs.item_steps.item_at.Goals as goal
 

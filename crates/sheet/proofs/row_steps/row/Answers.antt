@@ -3,7 +3,7 @@
 use Rattle.std.proofs.Common.{refl, sym, ◌∙◌}
 use Rattle.std.proofs.lemmas.Result.{err_from_is_err_and}
 use Rattle.rules.specs.Format.{row}
-use Rattle.rules.specs.Kinds.{row_kind-back, row_kind-past}
+use Rattle.rules.proofs.KindLaws.{row_kind-back, row_kind-past}
 use Rattle.sheet.proofs.RowLaws.{body-past}
 use Rattle.sheet.proofs.row_steps.row.Goals as goal
 

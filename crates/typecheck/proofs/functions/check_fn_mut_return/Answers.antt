@@ -9,10 +9,10 @@ use Rattle.typecheck.proofs.functions.check_fn_mut_return.Goals as goal
 
 pub returns-then-not-function_unwind : goal.returns-then-not-function_unwind
 returns-then-not-function_unwind c =
-    let test : true ≡ (item_is c.args.s.now CxxFunction c.args.i && not (function_unwind c.args.s.now c.args.i)) = search rules in
+    let test : true ≡ (item_is c.args.known.now.s.now CxxFunction c.args.i && not (function_unwind c.args.known.now.s.now c.args.i)) = search rules in
     taken _ _ refl c.check_mut_return_restriction.ensures test
 
 pub returns : goal.returns
 returns c =
-    let test : false ≡ (item_is c.args.s.now CxxFunction c.args.i && not (function_unwind c.args.s.now c.args.i)) = search rules in
+    let test : false ≡ (item_is c.args.known.now.s.now CxxFunction c.args.i && not (function_unwind c.args.known.now.s.now c.args.i)) = search rules in
     left _ _ refl (silent _) test

@@ -2,7 +2,7 @@
 use Rattle.std.proofs.Common.{sym, ◌∙◌, arith}
 use borrow.Author.Tests.{lt-leb}
 use Rattle.std.proofs.lemmas.Bool.{and_right}
-use Rattle.rules.specs.Kinds.{row_kind-back, row_kind-past}
+use Rattle.rules.proofs.KindLaws.{row_kind-back, row_kind-past}
 use Rattle.rules.specs.View.{kind}
 use Rattle.typecheck.proofs.impls.is_generic.Goals as goal
 

@@ -11,6 +11,7 @@ pub loop-j-init : goal.loop-j-init
 loop-j-init c = start _ _
 
 pub loop-j-preserved : goal.loop-j-preserved
+unfolding fn_arg
 loop-j-preserved c =
     let s = c.args.s.now in
     let r = c.args.r in

@@ -7,4 +7,4 @@ pub returns : goal.returns
 unfolding check_type_fn
 returns c =
     λ t.
-    also (meant-if _ c.error_if.ensures (rw c.row_flags.ensures at c.flag2.ensures)) c.check_fn_args.ensures
+    also (meant-if _ c.error_if.ensures c.fn_throws.ensures) c.check_fn_args.ensures

@@ -1,6 +1,5 @@
 -- `types::reasons::count_name` meets its contract: none counts nothing, and a name has one reason more.
 -- Assumes nothing.
-use mathlib.Core.List.{[]}
 use Rattle.types.proofs.Counting.{tally-none, counted-once, name-counted}
 use Rattle.types.proofs.reasons.count_name.Goals as goal
 
@@ -9,5 +8,4 @@ returns-in_default c = rw c.in_default.is tally-none
 
 pub returns : goal.returns
 returns c =
-    rw c.in-Some.is
-    (name-counted [] _ c.in-Some.n (c.reasons_for.ensures []) (counted-once c.reasons_for.type_inv c.saturating_add-count.ensures) c.enter_if.ensures)
+    rw c.in-Some.is (name-counted _ c.in-Some.n c.count.ensures (counted-once c.count.type_inv c.saturating_add-count.ensures) c.enter_if.ensures)

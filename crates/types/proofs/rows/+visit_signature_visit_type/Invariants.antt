@@ -15,6 +15,6 @@ decreases-visit_type l = 2 * l.row + 1
 
 abbrev pub invariant-visit_signature-loop-j : goal.invariant-visit_signature-loop-j
 invariant-visit_signature-loop-j l = record {
-  returned : Walks l.s l.fn.scratch l.initial.scratch l.fn.n l.row (or_nothing (fn_return l.s l.row)) l.initial.m;
-  walked : Walks l.s l.initial.scratch l.scratch l.initial.m l.row (first_rows l.s l.args l.j) l.m;
+  returned : Walks l.s l.fn.rows l.row (or_nothing (fn_return l.s l.row)) l.initial.rows;
+  walked : Walks l.s l.initial.rows l.row (first_rows l.s l.args l.j) l.rows;
 }

@@ -7,5 +7,5 @@ use Rattle.types.proofs.rows.show.Goals as goal
 pub seen-requires : goal.seen-requires
 seen-requires c = (few c.requires, c.requires.walk.long)
 
-pub returns-then-seen : goal.returns-then-seen
-returns-then-seen c = old c.requires (sym c.seen.ensures ∙ c.if-seen.true)
+pub returns-else-not-seen : goal.returns-else-not-seen
+returns-else-not-seen c = old c.requires (sym c.seen.ensures ∙ c.if-not-seen.false)

@@ -1,16 +1,15 @@
 -- `types::rows::visit_function` meets its contract.
 -- Assumes nothing.
 use native.Mathlib.Omega.{arith}
-use native.Mathlib.Nat.{le_refl}
-use Rattle.types.proofs.Walking.{held_next}
+use Rattle.types.proofs.Walking.{held_after}
 use Rattle.types.proofs.Showing.{place-small, args-below, args-inside, return-below, function-walk}
 use Rattle.types.proofs.rows.visit_function.Goals as goal
 
 pub overflow_add-at : goal.overflow_add-at
 overflow_add-at c = omega (arith, c.return_place-at.ensures, place-small c.args.s.now (λ i. omega (arith, c.type_inv.s i)) c.args.i)
 
-pub visit_list-m-requires : goal.visit_list-m-requires
-visit_list-m-requires c = record {
+pub visit_list-requires : goal.visit_list-requires
+visit_list-requires c = record {
   walk = c.requires.ready.walk;
   below = args-below _ c.requires.ready.walk.accepted _ c.requires.ready.below c.requires.is_function c.return_place-at.ensures;
   inside = args-inside _ c.requires.ready.walk.accepted _ c.requires.ready.below c.requires.is_function c.return_place-at.ensures;
@@ -18,9 +17,9 @@ visit_list-m-requires c = record {
 
 pub visit_return-requires : goal.visit_return-requires
 visit_return-requires c = record {
-  walk = held_next c.requires.ready.walk (c.visit_list-m.ensures.grown _ (le_refl _)).held c.visit_list-m.auto.scratch;
-  below = return-below _ c.requires.ready.walk.accepted _ c.requires.ready.below c.requires.is_function c.return_place-at.ensures c.pair_at-row.ensures;
+  walk = held_after c.requires.ready.walk c.visit_list.ensures;
+  below = return-below _ c.requires.ready.walk.accepted _ c.requires.ready.below c.requires.is_function c.return_place-at.ensures c.return_at.ensures;
 }
 
 pub returns : goal.returns
-returns c = function-walk _ c.return_place-at.ensures c.pair_at-row.ensures c.visit_list-m.ensures c.visit_return.ensures
+returns c = function-walk _ c.return_place-at.ensures c.return_at.ensures c.visit_list.ensures c.visit_return.ensures

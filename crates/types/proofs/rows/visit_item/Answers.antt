@@ -2,7 +2,8 @@
 -- Assumes nothing.
 use Rattle.std.proofs.Common.{refl, sym, ap, ◌∙◌}
 use mathlib.Core.Logic.{inl, inr}
-use Rattle.rules.specs.Kinds.{item_number, item_kind-past}
+use Rattle.rules.specs.Kinds.{item_number}
+use Rattle.rules.proofs.KindLaws.{item_kind-past}
 use Rattle.types.proofs.Showing.{fields-below, fields-inside, repr-below, impl-below, fields-walk, repr-walk, impl-walk, function-shown, none-shown, past-shown}
 use Rattle.types.proofs.Showing.{kind-of, is_function_lem}
 use Rattle.types.proofs.rows.visit_item.Goals as goal

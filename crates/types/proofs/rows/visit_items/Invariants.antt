@@ -7,4 +7,4 @@ use Rattle.types.specs.Walk.{Walks}
 use Rattle.types.proofs.rows.visit_items.Given as goal
 
 abbrev pub invariant-loop-i : goal.invariant-loop-i
-invariant-loop-i l = Walks l.s l.initial.scratch l.scratch 0 (rows l.s) (over l.i (shown_by l.s)) l.n
+invariant-loop-i l = Walks l.s l.initial.rows (rows l.s) (over l.i (shown_by l.s)) l.rows

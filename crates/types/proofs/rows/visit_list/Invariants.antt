@@ -6,4 +6,4 @@ use Rattle.types.proofs.Walking.{first_rows}
 use Rattle.types.proofs.rows.visit_list.Given as goal
 
 abbrev pub invariant-loop-j : goal.invariant-loop-j
-invariant-loop-j l = Walks l.s l.initial.scratch l.scratch l.n (rows l.s) (first_rows l.s l.at l.j) l.m
+invariant-loop-j l = Walks l.s l.initial.rows (rows l.s) (first_rows l.s l.at l.j) l.rows

@@ -1,6 +1,6 @@
 use mathlib.Core.Path.{refl, sym, ◌∙◌}
 use native.Mathlib.Omega.{arith}
-use Rattle.rules.specs.Kinds.{item_kind-past}
+use Rattle.rules.proofs.KindLaws.{item_kind-past}
 use Rattle.types.specs.Named.{keys_to}
 use Rattle.types.proofs.Passing.{pass-start, pass-turn, pass-end, item-is, never-past}
 use Rattle.types.proofs.Showing.{kind-of}
