@@ -8,6 +8,7 @@ use native.Mathlib.Numerals.{add-one}
 use native.Mathlib.Omega.{arith}
 use borrow.Author.Tests.{eq-eqb, ne_eqb}
 use lib.ListN.{length, get_or, set, replicate}
+use lib.Seq.{get_or-set_same, get_or-set_other}
 use Rattle.rules.specs.Numbers.{most_items}
 use Rattle.rules.specs.View.{items}
 use Rattle.rules.specs.Count.{count}
@@ -22,38 +23,46 @@ use Rattle.laws.specs.RowTable.{LeadRows}
 use Rattle.std.specs.Prelude.{Option}
 use Rattle.laws.specs.TierPass.{up, tier_from, tiers_to, start_to, pass_of}
 use Rattle.laws.proofs.Base.Tests.{both, holds}
-use Rattle.laws.proofs.Base.Counts.{count-get}
+use Rattle.laws.proofs.Base.Counts.{count-get, Eq?, same, other, eq?}
 use Rattle.laws.proofs.Names.LastItems.{struct_is}
 use Rattle.laws.proofs.Graph.WalkOrder.{each-once}
 use Rattle.laws.proofs.Graph.TierPass.{pass-is}
 use Rattle.laws.proofs.Graph.SameEdges.{table-walk, table-tiers}
 use Rattle.laws.proofs.Rule3.Due.{plain-tiers}
-use Rattle.toposort.specs.Leads.{Led, table_graph}
+use Rattle.toposort.specs.Leads.{Led, table_graph, Ups}
 use Rattle.toposort.specs.Post.{Ordered, Tiered}
 use Rattle.toposort.proofs.Leading.{Skips}
 use Rattle.toposort.proofs.Edges.{own-good, whole, struct-below}
 
 -- ## The fields of an item
 
--- `best` is the largest that the first k fields of item i give, by the tiers so far
-abbrev pub Best : (G : Graph) (t : List ℕ) (i best k : ℕ) → Type 0
-Best G t i best k = best ≡ largest (λ x. up (get_or t x 0)) G i k
+-- `best` is the largest that the first k fields of item i give, by the table of what each item gives
+abbrev pub Best : (G : Graph) (u : List ℕ) (i best k : ℕ) → Type 0
+Best G u i best k = (t : List ℕ) → Ups t u 255 → best ≡ largest (λ x. up (get_or t x 0)) G i k
 
-module _ (G : Graph) (t : List ℕ) (i : ℕ) where
-  pub best-none : Best G t i 0 0
+module _ (G : Graph) (u : List ℕ) (i : ℕ) where
+  pub best-none : Best G u i 0 0
   unfolding largest
-  best-none = refl
+  best-none t h = refl
 
   module _ {best : ℕ} where
     -- a field that leads nowhere gives nothing
-    pub best-skips : {n : ℕ} → Skips G i n (Best G t i best)
+    pub best-skips : {n : ℕ} → Skips G i n (Best G u i best)
     unfolding largest
-    best-skips k l e b = rw (add-one, largest, eq-eqb (G.to i k) 255 e) b
+    best-skips k l e b t h = rw (add-one, largest, eq-eqb (G.to i k) 255 e) (b t h)
 
-    pub best-more : {k x y next : ℕ} → x ≡ G.to i k → (G.to i k ≡ 255 → ⊥) → y ≡ up (get_or t x 0) → next ≡ max best y → Best G t i best k
-        → Best G t i next (k + 1)
+    pub best-more : {k x next : ℕ} → x ≡ G.to i k → (G.to i k ≡ 255 → ⊥) → x < 255 → next ≡ max best (get_or u x 0) → Best G u i best k
+        → Best G u i next (k + 1)
     unfolding largest
-    best-more {k} {x} q ne a e b = rw (add-one, largest, ne_eqb (G.to i k) 255 ne, e, a, ← q) (ap (λ (z : ℕ). max z (up (get_or t x 0))) b)
+    best-more {k} {x} q ne l e b t h = rw (add-one, largest, ne_eqb (G.to i k) 255 ne, e, h.ups x l, ← q) (ap (λ (y : ℕ). max y (up (get_or t x 0))) (b t h))
+
+-- a new tier, and what it gives
+pub ups-set : (t u : List ℕ) (i y v : ℕ) → Ups t u 255 → length t ≡ 255 → length u ≡ 255 → i < 255 → v ≡ up y → Ups (set t i y) (set u i v) 255
+ups-set t u i y v h m n l e = record { ups = λ x b. at x b (eq? x i) }
+  where
+    at : (x : ℕ) → x < 255 → Eq? x i → get_or (set u i v) x 0 ≡ up (get_or (set t i y) x 0)
+    at x b (same _ q) = rw (q, get_or-set_same u i v 0 (omega (arith, n)), get_or-set_same t i y 0 (omega (arith, m))) e
+    at x b (other _ q) = rw (get_or-set_other u i x v 0 q, get_or-set_other t i x y 0 q) (h.ups x b)
 
 -- ## Before the pass
 

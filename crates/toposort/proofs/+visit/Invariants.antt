@@ -1,6 +1,6 @@
--- `toposort::visit` meets its contract: the state is that of the definition's visit, at every depth that is enough. The invariant: the fields before some k
--- are done, and the word has the others that lead to a struct; the walk's state there has the loop's flag. The measure of a visit is the number of items that
--- are not marked; it falls, since an item is marked before its fields are visited.
+-- `toposort::visit` meets its contract: the state is that of the definition's visit, at every depth that is enough. The invariant: the fields before
+-- some k are done, and the word has the others that lead to a struct; the walk's state there has the loop's flag. The measure of a visit is the number
+-- of items that are not marked; it falls, since an item is marked before its fields are visited.
 -- Assumes nothing.
 use Rattle.laws.specs.Left.{fresh}
 use Rattle.toposort.specs.Leads.{table_graph}

@@ -26,8 +26,8 @@ pub loop-j-preserved-in_default : goal.loop-j-preserved-in_default
 loop-j-preserved-in_default c =
     let p = c.requires in elim (nowhere p.0 p.1 c.rest-at.ensures c.loop-j.invariant.1 c.in-Some.ensures.steps c.in_default.ensures) [ ]
 
-pub bounds-tiers-inner : goal.bounds-tiers-inner
-bounds-tiers-inner c =
+pub bounds-ups-inner : goal.bounds-ups-inner
+bounds-ups-inner c =
     let p = c.requires in
     struct-below p.0 _ (to-struct p.0 p.1 c.rest-at.ensures c.loop-j.invariant.1 c.in-Some.ensures.steps c.in-Some-leads_to.ensures)
 
@@ -37,8 +37,9 @@ loop-j-preserved c =
     let l = c.loop-j.invariant.1 in
     let out = c.in-Some.ensures.steps in
     let f = c.in-Some-leads_to.ensures in
+    let b = struct-below p.0 _ (to-struct p.0 p.1 c.rest-at.ensures l out f) in
     let best = turn-known l out (best-skips _ _ _) c.loop-j.invariant.2 in
-    (c.in-Some.j + 1, turn_on l out, best-more _ _ _ (there p.0 p.1 c.rest-at.ensures l out f) (turn-leads l out) c.above.ensures c.max-best.ensures best)
+    (c.in-Some.j + 1, turn_on l out, best-more _ _ _ (there p.0 p.1 c.rest-at.ensures l out f) (turn-leads l out) b c.max-best.ensures best)
 
 pub returns : goal.returns
 returns c = turned c.loop-j.invariant.1 (best-skips _ _ _) c.loop-j.invariant.2 c.in-None.ensures.steps

@@ -9,4 +9,4 @@ use Rattle.toposort.proofs.tier_from.Given as goal
 
 abbrev pub invariant-loop-j : goal.invariant-loop-j
 invariant-loop-j l =
-    (k : ℕ) × Turning (table_graph l.s l.leads) l.i l.fields k l.j-iterator.0 × Best (table_graph l.s l.leads) l.tiers l.i l.best k
+    (k : ℕ) × Turning (table_graph l.s l.leads) l.i l.fields k l.j-iterator.0 × Best (table_graph l.s l.leads) l.ups l.i l.best k
