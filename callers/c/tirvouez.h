@@ -8,9 +8,9 @@
 
 /* The version of the layout that this header reads, the bytes that a call asks of its scratch, the bytes of an answer without
  * records, those of a record, the sets of names, the names and the most items of a sheet. */
-#define TIRVOUEZ_VERSION 1
+#define TIRVOUEZ_VERSION 2
 #define TIRVOUEZ_SCRATCH 4096
-#define TIRVOUEZ_ANSWER 1312
+#define TIRVOUEZ_ANSWER 1824
 #define TIRVOUEZ_RECORD 8
 #define TIRVOUEZ_SETS 8
 #define TIRVOUEZ_NAMES 256
@@ -28,6 +28,12 @@
 #define TIRVOUEZ_AT_ORDER 800
 #define TIRVOUEZ_AT_STRUCTS 1055
 #define TIRVOUEZ_AT_TIERS 1056
+#define TIRVOUEZ_AT_UNPIN 1312
+
+/* Why a name must be Unpin, as a number: no reason, and the numbers of row 0 and of item 0, from which the others count on. */
+#define TIRVOUEZ_UNPIN_NONE 0
+#define TIRVOUEZ_UNPIN_ROWS 1
+#define TIRVOUEZ_UNPIN_ITEMS 32768
 
 /* The bytes of an answer with so many records. */
 #define TIRVOUEZ_ROOM(records) (TIRVOUEZ_ANSWER + TIRVOUEZ_RECORD * (size_t)(records))
@@ -219,6 +225,29 @@ static inline uint8_t tirvouez_order(const uint8_t *out, uint8_t place) {
 
 static inline uint8_t tirvouez_tier(const uint8_t *out, uint8_t item) {
     return out[TIRVOUEZ_AT_TIERS + (size_t)item];
+}
+
+/* Why a name must be Unpin, what lets callers move it, as a number; TIRVOUEZ_UNPIN_NONE where nothing does. */
+static inline uint16_t tirvouez_unpin(const uint8_t *out, uint8_t name) {
+    return tirvouez_u16(out + TIRVOUEZ_AT_UNPIN + 2 * (size_t)name);
+}
+
+/* Whether such a number is a row, that of a slice or a reference; whether it is an item, that of a method: 1 or 0. */
+static inline int tirvouez_unpin_is_row(uint16_t reason) {
+    return reason >= TIRVOUEZ_UNPIN_ROWS && reason < TIRVOUEZ_UNPIN_ITEMS;
+}
+
+static inline int tirvouez_unpin_is_item(uint16_t reason) {
+    return reason >= TIRVOUEZ_UNPIN_ITEMS;
+}
+
+/* The row of a number that is a row, the item of one that is an item. */
+static inline uint16_t tirvouez_unpin_row(uint16_t reason) {
+    return (uint16_t)(reason - TIRVOUEZ_UNPIN_ROWS);
+}
+
+static inline uint8_t tirvouez_unpin_item(uint16_t reason) {
+    return (uint8_t)(reason - TIRVOUEZ_UNPIN_ITEMS);
 }
 
 /* Record k of those in this buffer; k is below tirvouez_count. */

@@ -1,6 +1,8 @@
-//! Counts which messages, refusals and details a run of sheets has hit.
+//! Counts which messages, refusals, details and reasons to be Unpin a run of
+//! sheets has hit.
 
 use crate::judge::{Outcome, judge};
+use crate::{reader, unpin};
 use std::collections::BTreeMap;
 use std::fmt::Write;
 
@@ -15,6 +17,8 @@ pub struct Coverage {
     pub messages: BTreeMap<u8, u64>,
     /// By message and detail, where the detail is not 0.
     pub details: BTreeMap<(u8, u16), u64>,
+    /// Names with a reason to be Unpin, by `unpin::KINDS`.
+    pub unpin: [u64; 3],
 }
 
 impl Coverage {
@@ -32,6 +36,10 @@ impl Coverage {
                         let key = (record.message, record.detail);
                         *self.details.entry(key).or_default() += 1;
                     }
+                }
+                let sheet = reader::read(sheet).expect("an accepted sheet");
+                for reason in answer.unpin.into_iter().flatten() {
+                    self.unpin[unpin::kind(&sheet, reason)] += 1;
                 }
             }
         }
@@ -60,6 +68,9 @@ impl Coverage {
             if matches!(message, 23 | 32 | 49 | 51) {
                 writeln!(text, "detail {message} {detail} {count}").unwrap();
             }
+        }
+        for (kind, count) in unpin::KINDS.iter().zip(self.unpin) {
+            writeln!(text, "unpin {kind} {count}").unwrap();
         }
         writeln!(text, "missing refusals {:?}", self.missing_refusals()).unwrap();
         writeln!(text, "missing messages {:?}", self.missing_messages()).unwrap();

@@ -1,6 +1,6 @@
 //! The oracle's answers as equations on the definitions of crates/rules, one for each sheet, for the prover to check by computing both sides.
 
-use crate::judge::{Answer, Outcome, Record, judge};
+use crate::judge::{Answer, Outcome, Reason, Record, judge};
 use std::fmt::Write;
 
 /// Above this many bytes a sheet takes the prover too many steps.
@@ -20,6 +20,7 @@ const HEAD: &str = "\
 use Rattle.std.specs.Prelude.{ℕ, ◌≡◌, refl, List, [], ◌∷◌, ◌++◌}
 use Rattle.rules.specs.declared.Place.TheVariants.{R, G, I, F, A, O, D, L}
 use Rattle.rules.specs.declared.Fault.TheVariants.{ShortScratch, LongSheet, ShortSheet, TooMany, Misplaced, BadValue, BadRow, EqualRow}
+use Rattle.rules.specs.declared.UnpinReason.TheVariants.{Row, Item}
 use Rattle.rules.specs.Diagnostics.{tell}
 use Rattle.rules.specs.Answer.{refused}
 use Rattle.rules.specs.Table.{outcome_of, blanks, scratch}
@@ -54,11 +55,13 @@ fn fields(answer: &Answer) -> String {
     let sets: Vec<String> = answer.sets.iter().map(|set| format!("({})", list(&names(set)))).collect();
     let reasons = answer.reasons.iter().enumerate().filter(|(_, count)| **count > 0);
     let reasons: Vec<String> = reasons.map(|(name, count)| format!("({name}, {count})")).collect();
+    let unpin: Vec<String> = answer.unpin.iter().enumerate().filter_map(|(name, reason)| Some(unpin(name, (*reason)?))).collect();
     let records: Vec<String> = answer.records.iter().map(record).collect();
     format!(
-        "name_sets = {}; reasons = {}; order = {}; tiers = {}; report = {}",
+        "name_sets = {}; reasons = {}; unpin = {}; order = {}; tiers = {}; report = {}",
         list(&sets),
         list(&reasons),
+        list(&unpin),
         list(&answer.order),
         list(&answer.tiers),
         if records.is_empty() { "[]".to_owned() } else { records.join(" ++ ") },
@@ -67,6 +70,13 @@ fn fields(answer: &Answer) -> String {
 
 fn names(set: &[u64; 4]) -> Vec<u16> {
     (0..256).filter(|name| set[usize::from(name / 64)] >> (name % 64) & 1 == 1).collect()
+}
+
+fn unpin(name: usize, reason: Reason) -> String {
+    match reason {
+        Reason::Row(row) => format!("({name}, Row {row})"),
+        Reason::Item(item) => format!("({name}, Item {item})"),
+    }
 }
 
 fn record(record: &Record) -> String {

@@ -5,8 +5,9 @@ use crate::reader::{self, Refusal};
 use crate::sheet::{Item, Row, Sheet};
 use crate::syntax::check::{self, Generator};
 use crate::syntax::report::Errors;
+use crate::syntax::unpin::UnpinReason;
 use crate::syntax::{Api, Type, Types};
-use crate::{tiers, tree};
+use crate::{tiers, tree, unpin};
 use proc_macro2::{Ident, Span};
 use std::time::{Duration, Instant};
 
@@ -30,6 +31,10 @@ pub type Set = [u64; 4];
 pub struct Answer {
     pub sets: [Set; 8],
     pub reasons: [u16; 256],
+    /// Why a name must be Unpin, as the Rust has it: of aliases alone.
+    pub required_unpin: [Option<Reason>; 256],
+    /// The same of every C++ name.
+    pub unpin: [Option<Reason>; 256],
     /// Struct items in order.
     pub order: Vec<u8>,
     /// By item number.
@@ -37,6 +42,13 @@ pub struct Answer {
     /// Rows in the order in which they were collected.
     pub collected: Vec<u16>,
     pub records: Vec<Record>,
+}
+
+/// Why a name must be Unpin: a mutable reference or slice, or a method.
+#[derive(Copy, Clone, Debug, PartialEq, Eq)]
+pub enum Reason {
+    Row(u16),
+    Item(u8),
 }
 
 /// `second` is 0 for the places with one number.
@@ -70,11 +82,14 @@ fn answer(sheet: &Sheet) -> Answer {
     let mut errors = Errors::new();
     let types = run(&mut errors, &apis);
     let reasons = reasons(&types);
+    let collected: Vec<u16> = types.all.keys().map(|ty| row_of(ty)).collect();
     Answer {
         sets: sets(&types),
+        required_unpin: required_unpin(&types),
+        unpin: unpin::reasons(sheet, &collected),
         order: order(&types),
         tiers: tiers::tiers(sheet),
-        collected: types.all.keys().map(|ty| row_of(ty)).collect(),
+        collected,
         records: errors.errors.iter().map(|error| record(sheet, &reasons, error)).collect(),
         reasons,
     }
@@ -174,6 +189,27 @@ fn reasons(types: &Types) -> [u16; 256] {
         reasons[name] = found.map_or(0, |list| list.len() as u16);
     }
     reasons
+}
+
+fn required_unpin(types: &Types) -> [Option<Reason>; 256] {
+    let mut reasons = [None; 256];
+    for (name, ident) in names() {
+        reasons[name] = types.required_unpin.get(&ident).map(unpin_reason);
+    }
+    reasons
+}
+
+/// A receiver's type has the place of its item.
+fn unpin_reason(reason: &UnpinReason) -> Reason {
+    let number = |span: Span, letter: u8| {
+        assert!(span.letter == letter, "a reason at another place");
+        span.first
+    };
+    match reason {
+        UnpinReason::Receiver(receiver) => Reason::Item(number(receiver.ty.rust.span, b'I') as u8),
+        UnpinReason::Ref(ty) => Reason::Row(number(ty.span, b'R')),
+        UnpinReason::Slice(ty) => Reason::Row(number(ty.span, b'R')),
+    }
 }
 
 fn order(types: &Types) -> Vec<u8> {

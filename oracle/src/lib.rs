@@ -18,3 +18,4 @@ pub mod stored;
 mod syntax;
 pub mod tiers;
 mod tree;
+pub mod unpin;

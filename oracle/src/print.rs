@@ -1,6 +1,6 @@
 //! The two texts of an answer: what the program `report` prints, and all.
 
-use crate::judge::{Answer, Outcome, Record, SETS, Set};
+use crate::judge::{Answer, Outcome, Reason, Record, SETS, Set};
 use std::fmt::Write;
 
 /// The program `report` prints this many records at most.
@@ -41,6 +41,13 @@ fn full_answer(answer: &Answer) -> String {
     for (name, count) in answer.reasons.iter().enumerate() {
         if *count > 0 {
             writeln!(text, "reasons {name} {count}").unwrap();
+        }
+    }
+    for (name, reason) in answer.required_unpin.iter().enumerate() {
+        match reason {
+            None => {}
+            Some(Reason::Row(row)) => writeln!(text, "unpin {name} row {row}").unwrap(),
+            Some(Reason::Item(item)) => writeln!(text, "unpin {name} item {item}").unwrap(),
         }
     }
     text += &line("order", &answer.order);

@@ -1,5 +1,5 @@
-//! The worked sheet and the eleven sheets of docs/RULES.md, and the refusals'
-//! examples of docs/SHEET.md.
+//! The worked sheet and the eleven sheets of docs/RULES.md, the sheets with
+//! reasons to be Unpin, and the refusals' examples of docs/SHEET.md.
 
 use crate::generate::Draft;
 use crate::sheet::NONE;
@@ -43,6 +43,72 @@ pub fn parts() -> Vec<Vec<u8>> {
         aliases(&[(24, true)]),
         aliases(&[(24, false)]),
     ]
+}
+
+/// Seven sheets about reasons to be Unpin, as crates/rules/specs/Examples.antt
+/// has them.
+pub fn handles() -> Vec<Vec<u8>> {
+    vec![
+        // A CxxType alone, and a mutable reference to it.
+        handle(&[(7, 1)], |draft| {
+            draft.item(&[&[3, 27, 0, 0, 0]]);
+            draft.function(30, &[1]);
+        }),
+        // All three: the reference stands.
+        handle(&[(7, 1), (10, 1)], |draft| {
+            draft.item(&[&[7, 27, 0, 0]]);
+            draft.function(30, &[1, 2]);
+            method(draft, 5, 31, 27, 1);
+        }),
+        // The last of two receivers; pinned ones do not count.
+        handle(&[(10, 1), (7, 3)], |draft| {
+            draft.item(&[&[7, 27, 0, 0]]);
+            method(draft, 5, 30, 27, 1);
+            method(draft, 6, 31, 27, 1);
+            method(draft, 5, 32, 27, 3);
+            draft.item(&[&[5, 33, 0, 0, 1, 27, 1, 1, 2]]);
+        }),
+        // All three of a struct's name: none.
+        handle(&[(7, 1), (10, 1)], |draft| {
+            let byte = draft.name(2);
+            draft.strct(27, &[byte]);
+            draft.item(&[&[7, 27, 0, 0]]);
+            draft.function(30, &[1, 2]);
+            method(draft, 5, 31, 27, 1);
+        }),
+        alias_and_self(27),
+        alias_and_self(23),
+        // Nothing mutable: none.
+        handle(&[(10, 0), (7, 0)], |draft| {
+            draft.item(&[&[7, 27, 0, 0]]);
+            draft.function(30, &[1, 2]);
+            method(draft, 5, 31, 27, 0);
+        }),
+    ]
+}
+
+/// Row 0 is the plain name 27; then rows over it, by kind and flags.
+fn handle(rows: &[(u16, u16)], items: impl Fn(&mut Draft)) -> Vec<u8> {
+    let mut draft = Draft::new();
+    let plain = draft.name(27);
+    for &(kind, flags) in rows {
+        draft.row(&[kind, flags, plain]);
+    }
+    items(&mut draft);
+    draft.bytes()
+}
+
+/// An alias, and a method of Self.
+fn alias_and_self(name: u16) -> Vec<u8> {
+    let mut draft = Draft::new();
+    draft.item(&[&[7, name, 0, 0]]);
+    method(&mut draft, 5, 30, 23, 1);
+    draft.bytes()
+}
+
+/// A method without arguments and return.
+fn method(draft: &mut Draft, kind: u16, name: u16, receiver: u16, flags: u16) {
+    draft.item(&[&[kind, name, 0, 0, 2, receiver, flags, NONE, 0]]);
 }
 
 /// The examples of refusals 2 to 8, in order.

@@ -2,13 +2,13 @@
 
 use crate::generate::Profile;
 use crate::judge::{Answer, Outcome, judge};
-use crate::{print, proved};
+use crate::{print, proved, unpin};
 
 /// Records that are stored of one sheet at most.
 const STORED: usize = 4_096;
 
 /// Profile, seed, first number, how many, step from one number to the next.
-const RUNS: [(&str, u64, u64, u64, u64); 27] = [
+const RUNS: [(&str, u64, u64, u64, u64); 28] = [
     ("limits", 1, 0, 40, 1),
     ("cuts", 1, 0, 45, 7),
     ("offsets", 1, 0, 40, 5),
@@ -36,6 +36,7 @@ const RUNS: [(&str, u64, u64, u64, u64); 27] = [
     ("full-many", 1, 0, 4, 1),
     ("full-none", 1, 0, 3, 1),
     ("full-mixed", 1, 0, 3, 1),
+    ("handles", 1, 0, 40, 1),
 ];
 
 pub fn sheets() -> Vec<Vec<u8>> {
@@ -48,6 +49,7 @@ pub fn sheets() -> Vec<Vec<u8>> {
         let numbers = (0..count).map(|index| first + index * step);
         sheets.extend(numbers.map(|number| profile.sheet(seed, number)));
     }
+    sheets.extend(proved::handles());
     sheets
 }
 
@@ -71,8 +73,9 @@ pub fn answers() -> Vec<u8> {
     file
 }
 
-/// Total, sets, sizes, reasons, order, tiers, two counts: all 0.
-const REFUSED: [u8; 4 + 256 + 16 + 512 + 255 + 255 + 2 + 4] = [0; 1_304];
+/// Total, sets, sizes, reasons, order, tiers, reasons to be Unpin, two counts:
+/// all 0.
+const REFUSED: [u8; 4 + 256 + 16 + 512 + 255 + 255 + 512 + 2 + 4] = [0; 1_816];
 
 fn push_answer(file: &mut Vec<u8>, answer: &Answer) {
     // Verdict and position.
@@ -89,6 +92,9 @@ fn push_answer(file: &mut Vec<u8>, answer: &Answer) {
     }
     push_padded(file, &answer.order);
     push_padded(file, &answer.tiers);
+    for &reason in &answer.unpin {
+        push_pair(file, unpin::number(reason));
+    }
     push_pair(file, answer.collected.len() as u16);
     for &row in &answer.collected {
         push_pair(file, row);

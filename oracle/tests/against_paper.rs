@@ -10,7 +10,7 @@ mod paper;
 use oracle::generate::PROFILES;
 use oracle::judge::{Answer, Outcome, judge};
 use oracle::sheet::{Item, Sheet};
-use oracle::{print, reader};
+use oracle::{print, reader, unpin};
 
 fn compare(sheet: &Sheet, answer: &Answer, what: &str) {
     let paper = paper::paper(sheet);
@@ -18,6 +18,7 @@ fn compare(sheet: &Sheet, answer: &Answer, what: &str) {
         assert_eq!(print::members(set), *expected, "{what}");
     }
     assert_eq!(answer.reasons[..], paper.reasons, "{what}");
+    assert_eq!(answer.unpin[..], paper.unpin, "{what}");
     assert_eq!(answer.order, paper.order, "{what}");
     assert_eq!(answer.tiers, paper.tiers, "{what}");
     assert_eq!(answer.collected, paper.collected, "{what}");
@@ -41,6 +42,36 @@ fn rule_3(sheet: &Sheet, answer: &Answer, what: &str) {
     assert!(answer.records.len() < 32_768, "{what}");
 }
 
+/// Sheets with a reason to be Unpin of each kind, for a name that an alias
+/// bears and for one that a CxxType alone does.
+#[derive(Default)]
+struct Asked {
+    alias: [u64; 3],
+    cxx_type: [u64; 3],
+}
+
+/// Of a name that an alias bears the Rust says what is said of every C++
+/// name, and of other names nothing.
+fn required_unpin(sheet: &Sheet, answer: &Answer, asked: &mut Asked, what: &str) {
+    let (mut alias, mut cxx_type) = ([false; 3], [false; 3]);
+    for name in 0..256 {
+        let is_alias =
+            |item: &Item| matches!(item, Item::TypeAlias { head } if head.name as usize == name);
+        let is_alias = sheet.items.iter().any(is_alias);
+        let reason = answer.unpin[name];
+        let expected = if is_alias { reason } else { None };
+        assert_eq!(answer.required_unpin[name], expected, "{what} name {name}");
+        if let Some(reason) = reason {
+            let kinds = if is_alias { &mut alias } else { &mut cxx_type };
+            kinds[unpin::kind(sheet, reason)] = true;
+        }
+    }
+    for kind in 0..3 {
+        asked.alias[kind] += alias[kind] as u64;
+        asked.cxx_type[kind] += cxx_type[kind] as u64;
+    }
+}
+
 fn setting(name: &str, usual: u64) -> u64 {
     std::env::var(name).ok().and_then(|value| value.parse().ok()).unwrap_or(usual)
 }
@@ -48,7 +79,7 @@ fn setting(name: &str, usual: u64) -> u64 {
 #[test]
 fn rust_against_paper() {
     let (wanted, seed) = (setting("PAPER_SHEETS", 200), setting("PAPER_SEED", 5));
-    let mut compared = 0;
+    let (mut compared, mut asked) = (0, Asked::default());
     for profile in &PROFILES {
         let large = ["items", "rows", "chains", "full-many", "full-none", "full-mixed"];
         let count = if large.contains(&profile.name) { wanted / 60 } else { wanted };
@@ -61,8 +92,14 @@ fn rust_against_paper() {
             let sheet = reader::read(&sheet).expect("an accepted sheet");
             compare(&sheet, &answer, &what);
             rule_3(&sheet, &answer, &what);
+            required_unpin(&sheet, &answer, &mut asked, &what);
             compared += 1;
         }
     }
     println!("{compared} accepted sheets compared");
+    for (kind, word) in unpin::KINDS.iter().enumerate() {
+        let (alias, cxx_type) = (asked.alias[kind], asked.cxx_type[kind]);
+        println!("Unpin by {word}: {alias} sheets with an alias, {cxx_type} with a CxxType alone");
+        assert!(alias > 0 && cxx_type > 0, "no reason to be Unpin by {word}");
+    }
 }

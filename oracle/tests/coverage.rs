@@ -15,6 +15,7 @@ fn every_message_and_refusal() {
     }
     assert_eq!(coverage.missing_messages(), []);
     assert_eq!(coverage.missing_refusals(), []);
+    assert!(!coverage.unpin.contains(&0), "{:?}", coverage.unpin);
     assert_eq!(coverage.too_large, 0);
     // `describe`'s branches that can occur, at each of its three messages.
     for message in [32, 49, 51] {

@@ -48,6 +48,22 @@ record 2 F 0 0 0
     assert_eq!(oracle(&["--full"], &proved::worked()), expected);
 }
 
+/// Reasons to be Unpin, as the Rust has them: of an alias, by row or item, and
+/// of no CxxType.
+#[test]
+fn full_answer_with_reasons() {
+    let unpin = |sheet: &[u8]| -> Vec<String> {
+        let text = oracle(&["--full"], sheet);
+        text.lines().filter(|line| line.starts_with("unpin")).map(str::to_owned).collect()
+    };
+    let sheets = proved::handles();
+    assert_eq!(unpin(&sheets[0]), [""; 0]);
+    assert_eq!(unpin(&sheets[1]), ["unpin 27 row 1"]);
+    assert_eq!(unpin(&sheets[2]), ["unpin 27 item 2"]);
+    let text = oracle(&["--full"], &sheets[1]);
+    assert!(text.contains("\nreasons 27 1\nunpin 27 row 1\norder\n"), "{text}");
+}
+
 #[test]
 fn batches() {
     let mut input = Vec::new();

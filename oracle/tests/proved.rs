@@ -1,6 +1,6 @@
 //! The sheets of docs/RULES.md and docs/SHEET.md give what is said there.
 
-use oracle::judge::judge;
+use oracle::judge::{Outcome, Reason, judge};
 use oracle::{print, proved};
 
 fn report(sheet: &[u8]) -> String {
@@ -63,6 +63,60 @@ fn eleven_sheets_taken_apart() {
     ];
     for (sheet, expected) in proved::parts().iter().zip(expected) {
         assert_eq!(report(sheet), expected);
+    }
+}
+
+type Reasons = [Option<Reason>; 256];
+
+/// The reasons to be Unpin that the Rust has, and those of every C++ name.
+fn unpin(sheet: &[u8]) -> (Reasons, Reasons) {
+    match judge(sheet) {
+        Outcome::Accepted(answer) => (answer.required_unpin, answer.unpin),
+        _ => panic!("a sheet that is not accepted"),
+    }
+}
+
+#[test]
+fn seven_sheets_with_reasons() {
+    let expected = [
+        Some((27, Reason::Row(1))),
+        Some((27, Reason::Row(1))),
+        Some((27, Reason::Item(2))),
+        None,
+        None,
+        Some((23, Reason::Item(1))),
+        None,
+    ];
+    assert_eq!(proved::handles().len(), expected.len());
+    for (number, (sheet, expected)) in proved::handles().iter().zip(expected).enumerate() {
+        let mut reasons = [None; 256];
+        if let Some((name, reason)) = expected {
+            reasons[name] = Some(reason);
+        }
+        // The first sheet has a CxxType and no alias.
+        let by_rust = if number == 0 { [None; 256] } else { reasons };
+        assert_eq!(unpin(sheet), (by_rust, reasons), "sheet {number}");
+    }
+}
+
+/// The sheets of Examples.antt, each a list of pairs.
+fn examples() -> Vec<Vec<u8>> {
+    let path = concat!(env!("CARGO_MANIFEST_DIR"), "/../crates/rules/specs/Examples.antt");
+    let text = std::fs::read_to_string(path).expect("Examples.antt");
+    let lists = text.split("sheet = ").skip(1).filter_map(|rest| rest.split_once("[]"));
+    let pair = |word: &str| word.trim().parse::<u16>().expect("a pair");
+    let pairs = |list: &str| {
+        let words = list.split('∷').filter(|word| !word.trim().is_empty());
+        words.flat_map(|word| pair(word).to_le_bytes()).collect()
+    };
+    lists.map(|(list, _)| pairs(list)).collect()
+}
+
+#[test]
+fn seven_sheets_are_those_of_the_definitions() {
+    let examples = examples();
+    for (number, sheet) in proved::handles().iter().enumerate() {
+        assert!(examples.contains(sheet), "sheet {number}");
     }
 }
 

@@ -1,6 +1,6 @@
 //! The stored answers of the original Rust (testdata/answers.bin, see its README): every part of every one.
 
-use tirvouez::{ANSWER, Answer, Checker, Letter, RECORD, SCRATCH, Set, Unreadable, VERSION, all_records, check, room};
+use tirvouez::{ANSWER, Answer, Checker, Letter, RECORD, SCRATCH, Set, UnpinReason, Unreadable, VERSION, all_records, check, room};
 
 /// The most records that are stored of an answer.
 const STORED: usize = 4096;
@@ -37,6 +37,7 @@ fn expected(file: &mut File, sheet: &[u8]) -> Vec<u8> {
     bytes.push(if bytes[0] == 0 { structs(sheet) } else { 0 });
     bytes.extend(file.bytes(255)); // tiers
     bytes.push(0);
+    bytes.extend(file.bytes(512)); // reasons to be Unpin
     let collected = file.number(2);
     file.bytes(2 * collected);
     let records = file.number(4);
@@ -113,6 +114,58 @@ fn readers() {
 }
 
 #[test]
+fn numbers_of_reasons_to_be_unpin() {
+    let mut bytes = [0; ANSWER];
+    bytes[1..4].copy_from_slice(&[VERSION, 0x20, 0x07]);
+    let mut expected = Vec::new();
+    for (name, number, reason) in [
+        (0, 1_u16, UnpinReason::Row(0)),
+        (27, 1_024, UnpinReason::Row(1_023)),
+        (28, 32_768, UnpinReason::Item(0)),
+        (255, 33_022, UnpinReason::Item(254)),
+    ] {
+        let at = 1_312 + 2 * usize::from(name);
+        bytes[at..at + 2].copy_from_slice(&number.to_le_bytes());
+        expected.push((name, reason));
+    }
+    let answer = Answer::new(&bytes).unwrap();
+    assert_eq!(answer.unpin_reasons().collect::<Vec<_>>(), expected);
+    assert_eq!((answer.unpin(27), answer.unpin(255), answer.unpin(1)), (Some(expected[1].1), Some(expected[3].1), None));
+}
+
+/// Sheets as pairs, each with the one name that must be Unpin, if there is one: those of crates/rules/specs/Examples.antt.
+const UNPIN: [(&str, Option<(u8, UnpinReason)>); 7] = [
+    // a CxxType, and a function over a mutable reference to it
+    ("2 2 12 16 22 32 0 27 7 1 0 3 27 0 0 0 5 30 0 0 0 65535 1 1", Some((27, UnpinReason::Row(1)))),
+    // an alias with all three: the reference stands
+    ("3 3 16 20 26 32 40 58 0 27 7 1 0 10 1 0 7 27 0 0 5 30 0 0 0 65535 2 1 2 5 31 0 0 2 27 1 65535 0", Some((27, UnpinReason::Row(1)))),
+    // a slice, and then methods: of those that are not pinned the last
+    (
+        "3 5 20 24 30 36 44 62 80 98 0 27 10 1 0 7 3 0 7 27 0 0 5 30 0 0 2 27 1 65535 0 6 31 0 0 2 27 1 65535 0 \
+         5 32 0 0 2 27 3 65535 0 5 33 0 0 1 27 1 1 2",
+        Some((27, UnpinReason::Item(2))),
+    ),
+    // a struct and an alias of one name
+    ("4 4 20 24 30 36 40 52 60 78 0 27 7 1 0 10 1 0 0 2 1 27 0 0 1 3 7 27 0 0 5 30 0 0 0 65535 2 1 2 5 31 0 0 2 27 1 65535 0", None),
+    // a method of Self, which nothing declares, and of Self as an alias
+    ("0 2 8 16 7 27 0 0 5 30 0 0 2 23 1 65535 0", None),
+    ("0 2 8 16 7 23 0 0 5 30 0 0 2 23 1 65535 0", Some((23, UnpinReason::Item(1)))),
+    // nothing mutable
+    ("3 3 16 20 26 32 40 58 0 27 10 0 0 7 0 0 7 27 0 0 5 30 0 0 0 65535 2 1 2 5 31 0 0 2 27 0 65535 0", None),
+];
+
+#[test]
+fn reasons_to_be_unpin() {
+    let mut checker = Checker::new();
+    for (pairs, reason) in UNPIN {
+        let sheet: Vec<u8> = pairs.split(' ').flat_map(|pair| pair.parse::<u16>().unwrap().to_le_bytes()).collect();
+        let answer = checker.check(&sheet).unwrap();
+        assert_eq!((answer.verdict(), answer.unpin_reasons().collect::<Vec<_>>()), (Ok(()), reason.into_iter().collect()), "{pairs}");
+    }
+    assert_eq!(checker.check(&[]).unwrap().unpin_reasons().next(), None);
+}
+
+#[test]
 fn other_layouts() {
     let (mut scratch, mut out) = ([0; SCRATCH], vec![0; room(2)]);
     let written = check(&SHEET, &mut scratch, 0, &mut out);
@@ -120,7 +173,10 @@ fn other_layouts() {
     out[1] = VERSION + 1;
     let fault = Answer::new(&out[..written]).unwrap_err();
     assert_eq!(fault, Unreadable::Version(VERSION + 1));
-    assert_eq!(fault.to_string(), "the answer has layout version 2, and this crate reads version 1");
+    assert_eq!(fault.to_string(), "the answer has layout version 3, and this crate reads version 2");
+    // the one before has no reasons to be Unpin
+    out[1] = 1;
+    assert_eq!(Answer::new(&out[..written]).unwrap_err(), Unreadable::Version(1));
     // the same version with a part more: the records begin further on
     out[1] = VERSION;
     out.splice(ANSWER..ANSWER, [0xFF; 16]);

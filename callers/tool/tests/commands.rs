@@ -259,6 +259,37 @@ fn every_record_is_told() {
     assert_eq!(out.matches("error[").count(), 3, "{out}");
 }
 
+/// Two aliases, a slice of one and a reference to the other, which is an argument of a function pointer.
+const MOVED: &str =
+    "row 0 27\nrow 10 1 0\nrow 0 26\nrow 7 1 2\nrow 12 0 65535 1 3\nitem 7 27 0 0\nitem 7 26 0 0\nitem 5 32 0 0 0 65535 2 1 4\n";
+
+#[test]
+fn names_that_must_be_unpin() {
+    let sheet = |rows: &str| piped(&["make", "-"], rows.as_bytes()).stdout;
+    let moved = sheet(MOVED);
+    // of a clean sheet too, which stays clean
+    let reference = "must be Unpin: n26, because of row 3 (reference `&mut n26` in argument 1 of item 2)\n";
+    let slice = "must be Unpin: n27, because of row 1 (slice `&mut [n27]` in argument 0 of item 2)\n";
+    assert_eq!(with_input(&["check", "-"], &moved), (0, format!("-: accepted\n\n{reference}{slice}\n"), String::new()));
+    assert_eq!(with_input(&["check", "--brief", "-"], &moved), (0, "-: accepted\n".to_owned(), String::new()));
+    let sum = "2 sheets: 2 accepted and clean, 0 with diagnostics, 0 refused\n";
+    let both = format!("-: accepted\n\n{reference}{slice}\nsamples/cutter.sheet: accepted\n{sum}");
+    assert_eq!(with_input(&["check", "-", "samples/cutter.sheet"], &moved), (0, both, String::new()));
+    // a method stands after a slice; and names of a file
+    let cut = sheet(&format!("{MOVED}item 5 31 0 0 2 27 1 65535 0\n"));
+    let method = "must be Unpin: Cutter, because of item 3 (method `cut` with `self: &mut Cutter`)\n";
+    let named = with_input(&["check", "--names", "samples/cutter.names", "-"], &cut).1;
+    assert_eq!(named, format!("-: accepted\n\n{}{method}\n", reference.replace("n26", "Speed")));
+    let data = with_input(&["check", "--json", "--names", "samples/cutter.names", "-"], &cut).1;
+    assert!(data.contains(",\"unpin\":{\"26\":{\"row\":3},\"27\":{\"item\":3}},\"order\":[]"), "{data}");
+    // after the diagnostics
+    let pinned = sheet("item 3 27 0 0 0\nitem 6 31 0 0 2 27 1 65535 0\n");
+    let (status, out, _) = with_input(&["check", "-"], &pinned);
+    let blocks: Vec<&str> = out.split("\n\n").collect();
+    assert!(status == 1 && blocks[0] == "-: accepted, 1 diagnostic" && blocks[1].starts_with("error[44]: "), "{out}");
+    assert_eq!(blocks[2..], ["must be Unpin: n27, because of item 1 (method `n31` with `self: &mut n27`)", ""]);
+}
+
 #[test]
 fn orders() {
     let cycle = run(&["order", "samples/cycle.sheet"]).1;
@@ -291,14 +322,18 @@ fn orders() {
 #[test]
 fn data() {
     let worked = "{\"file\":\"samples/worked.sheet\",\"accepted\":true,\"total\":2,\"sets\":{\"structs\":[24,25],\"enums\":[],\"cxx\":[],\"rust\":[],\
-        \"aliases\":[],\"untrusted\":[],\"required_trivial\":[],\"improper\":[]},\"reasons\":{},\"order\":[1,0],\"tiers\":[255,255],\"records\":[\
+        \"aliases\":[],\"untrusted\":[],\"required_trivial\":[],\"improper\":[]},\"reasons\":{},\"unpin\":{},\
+        \"order\":[1,0],\"tiers\":[255,255],\"records\":[\
         {\"message\":2,\"place\":\"F\",\"numbers\":[1,0],\"detail\":0,\"text\":\"unsupported cyclic data structure\"},\
         {\"message\":2,\"place\":\"F\",\"numbers\":[0,0],\"detail\":0,\"text\":\"unsupported cyclic data structure\"}]}\n";
     let refused = "{\"file\":\"samples/refused.sheet\",\"accepted\":false,\"refusal\":7,\"position\":12}\n";
     let found = run(&["check", "--json", "samples/worked.sheet", "samples/refused.sheet"]);
     assert_eq!(found, (2, format!("{worked}{refused}"), String::new()));
     let names = run(&["check", "--json", "--names=samples/blade.names", "samples/blade.sheet"]).1;
-    assert!(names.contains("use Pin<&mut Blade>\"}") && names.contains("\"reasons\":{\"26\":2}"), "{names}");
+    assert!(
+        names.contains("use Pin<&mut Blade>\"}") && names.contains("\"reasons\":{\"26\":2},\"unpin\":{\"26\":{\"row\":4}},"),
+        "{names}"
+    );
     let order = "{\"file\":\"samples/worked.sheet\",\"accepted\":true,\"structs\":[\
         {\"item\":1,\"name\":25,\"tier\":255,\"holds\":[{\"field\":0,\"item\":1,\"cyclic\":true}]},\
         {\"item\":0,\"name\":24,\"tier\":255,\"holds\":[{\"field\":0,\"item\":1,\"cyclic\":true}]}]}\n";

@@ -17,12 +17,14 @@ use Rattle.rules.specs.Answer as rule
 use Rattle.rules.specs.Diagnostics.{Small}
 use Rattle.rules.specs.Report.{report}
 use Rattle.rules.specs.Rule3.{Rule3, Tiers3}
+use Rattle.rules.specs.UnpinRule.{UnpinRule}
 use Rattle.laws.proofs.Base.Forms.{All, none}
 use Rattle.laws.proofs.Sheet.Accepted.{accepted-is}
 use Rattle.laws.proofs.Report.SmallReport.{small-report}
 use Rattle.laws.proofs.Report.Bounds.Total.{total-few}
 use Rattle.laws.proofs.Rule3.Outcomes.{number_is, position-is}
 use Rattle.laws.proofs.Rule3.Due.{due}
+use Rattle.laws.proofs.Unpin.Due.{unpin-due}
 use Rattle.errors.specs.Sink.{kept}
 use Rattle.windows.specs.Windows.{stored}
 use Rattle.windows.proofs.Stores.{kept-stored}
@@ -78,4 +80,5 @@ module _ (sh sc : List ℕ) (ys : List Diagnostic) (zs : List ℕ) (long : lengt
         position = ap rule.position_of verdict ∙ position-is sh sc ys;
         rule3 = λ h. subst (λ (x : Answer). Rule3 sh x (report sh)) (sym answer) (due sh sc ys (sym verdict ∙ h)).0;
         tiers = λ h. subst (λ (x : Answer). Tiers3 sh x.tiers) (sym answer) (due sh sc ys (sym verdict ∙ h)).1;
+        unpin = λ h. subst (λ (x : Answer). UnpinRule sh x.unpin) (sym answer) (unpin-due sh sc ys (sym verdict ∙ h)).0;
       }

@@ -6,10 +6,11 @@ use native.Mathlib.Omega.{arith}
 use mathlib.Core.List.{List, [], ◌∷◌, ◌++◌, append-nil}
 use lib.ListN.{length, get_or, take, set, replicate, length-replicate, drop_of_length-le}
 use lib.Seq.{sets, sets-eq, take_all, length-take-le}
-use Rattle.std.specs.Prelude.{Ok, Err}
+use Rattle.std.specs.Prelude.{Ok, Err, Option, None}
 use Rattle.rules.specs.Numbers.{name_count, set_count, most_items, struct_set, enum_set, cxx_set, rust_set, alias_set, untrusted_set, required_trivial_set}
 use Rattle.rules.specs.declared.Refusal.{Refusal}
 use Rattle.rules.specs.declared.NameSet.{NameSet}
+use Rattle.rules.specs.declared.UnpinReason.{UnpinReason}
 use Rattle.rules.specs.declared.Answer.{Answer}
 use Rattle.rules.specs.Names.{Words, empty, size}
 use Rattle.rules.specs.Answer.{name_set, refused}
@@ -30,6 +31,7 @@ none r w =
       sets = replicate set_count (name_set w);
       sizes = replicate set_count 0;
       reasons = replicate name_count 0;
+      unpin = replicate name_count None;
       structs = 0;
       order = replicate most_items 0;
       tiers = replicate most_items 0;
@@ -92,7 +94,7 @@ module _ {w : Words} {x : NameSet} {n : ℕ} (h : Sized w x n) where
   count-is : n ≡ size w
   count-is = h.count ∙ ap size h.set
 
-module _ (w : List ℕ) (structs : ℕ) (order tiers : List ℕ) (total : ℕ) where
+module _ (w : List ℕ) (unpin : List (Option UnpinReason)) (structs : ℕ) (order tiers : List ℕ) (total : ℕ) where
   pub accepted-is : {a b c d e f g h : NameSet} {i j k l m n o p : ℕ} {reasons : List ℕ} → Sized (names_in w struct_set) a i → Sized (names_in w enum_set) b j
       → Sized (names_in w cxx_set) c k → Sized (names_in w rust_set) d l → Sized (names_in w alias_set) e m → Sized (names_in w untrusted_set) f n
       → Sized (names_in w required_trivial_set) g o → p ≡ size h.words → reasons ≡ counts_in w required_trivial_set
@@ -101,11 +103,12 @@ module _ (w : List ℕ) (structs : ℕ) (order tiers : List ℕ) (total : ℕ) w
         sets = a ∷ b ∷ c ∷ d ∷ e ∷ f ∷ g ∷ h ∷ [];
         sizes = i ∷ j ∷ k ∷ l ∷ m ∷ n ∷ o ∷ p ∷ [];
         reasons = reasons;
+        unpin = unpin;
         structs = structs;
         order = order;
         tiers = tiers;
         total = total;
-      } ≡ answer_with w h.words structs order tiers total
+      } ≡ answer_with w unpin h.words structs order tiers total
   unfolding answer_with
   accepted-is A B C D E F G H R =
       rw (

@@ -27,6 +27,7 @@ use Rattle.laws.proofs.Report.Bounds.Walk.{structs-few}
 use Rattle.laws.proofs.Sheet.Accepted.{few-items}
 use Rattle.names.specs.Known.{tabled}
 use Rattle.scratch.specs.Bytes.{marks_end}
+use Rattle.types.specs.declared.Gathered.{Gathered}
 use Rattle.types.specs.Post.{Collects}
 use Rattle.toposort.specs.declared.Sorted.{Sorted}
 use Rattle.toposort.specs.Post.{Sorts, Tiered}
@@ -44,9 +45,9 @@ cleared-over n b b' h = ap (λ (l : List ℕ). replicate n 0 ++ l) (h ∙ drop_a
 abbrev behind : ℕ
 behind = scratch_size - marks_end
 
-module _ {s b b' names : List ℕ} {cx₀ cx₁ : Errors} {k : ℕ} (c : Collects s b b' names cx₀ cx₁ k) where
+module _ {s b b' names : List ℕ} {cx₀ cx₁ : Errors} {k : Gathered} (c : Collects s b b' names cx₀ cx₁ k) where
   -- what the checks are given
-  pub given : Accepted s → Checkable s names b' k
+  pub given : Accepted s → Checkable s names b' k.rows
   given acc =
       record { accepted = acc; names_held = c.known; count = c.count; row = λ i l. c.pairs i (let e = c.count in omega arith) }
 
@@ -72,7 +73,7 @@ module _ {s b b' names : List ℕ} {cx₀ cx₁ : Errors} {k : ℕ} (c : Collect
     len-few = omega (arith, len_is, structs-few s (items s), few-items s acc)
 
     answer-is : {words tiers : List ℕ} → Tiered s d tiers → Searched s words → cx.total ≡ length (report s)
-        → answer_with names words w.len w.order tiers cx.total
+        → answer_with names k.unpin words w.len w.order tiers cx.total
         ≡ accepted s (types_of s) (walk_of s (types_of s)) (report_of s (types_of s) (walk_of s (types_of s)))
     unfolding answer_with accepted sets_of report tabled
     answer-is ti im total =
@@ -86,6 +87,7 @@ module _ {s b b' names : List ℕ} {cx₀ cx₁ : Errors} {k : ℕ} (c : Collect
           ap (λ (t : Types). t.untrusted) known,
           ap (λ (t : Types). t.required_trivial) known,
           ap (λ (t : Types). t.reasons) known,
+          c.unpin,
           im.words,
           len_is,
           (plain-sorts held o).order,
@@ -95,7 +97,7 @@ module _ {s b b' names : List ℕ} {cx₀ cx₁ : Errors} {k : ℕ} (c : Collect
 
     -- the sink began at 0
     pub checked : {words tiers e out' : List ℕ} {r : Answer} → cx₀.total ≡ 0 → Tiered s d tiers → Searched s words
-        → e ≡ cleared b' → r ≡ answer_with names words w.len w.order tiers cx.total → out' ≡ cx.out.now → RunAccepted s b cx₀.out.now cx₀.from r e out'
+        → e ≡ cleared b' → r ≡ answer_with names k.unpin words w.len w.order tiers cx.total → out' ≡ cx.out.now → RunAccepted s b cx₀.out.now cx₀.from r e out'
     checked none ti im e a w =
         let few : length (report s) ≤ most = omega (arith, total-few s acc) in
         record {

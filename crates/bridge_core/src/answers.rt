@@ -7,7 +7,7 @@ ghost use Rattle.bridge_core.specs.Run.{answer_with};
 
 use names::known;
 use names::known::Names;
-use rules::{Answer, NameSet, Refusal, limit, name, set};
+use rules::{Answer, NameSet, Refusal, UnpinReason, limit, name, set};
 
 pub fn refused(refusal: Refusal) -> Answer
     ensures { result ≡ refused_answer refusal }
@@ -18,6 +18,7 @@ pub fn refused(refusal: Refusal) -> Answer
         sets: [none; set::COUNT],
         sizes: [0; set::COUNT],
         reasons: [0; name::COUNT],
+        unpin: [None; name::COUNT],
         structs: 0,
         order: [0; limit::ITEMS],
         tiers: [0; limit::ITEMS],
@@ -36,16 +37,17 @@ fn reasons(table: &Names) -> [u16; 256]
     all
 }
 
-// The sets and reasons of the table, the improper names, and how many struct items there are, with their order and tiers.
+// The sets and reasons of the table, the reasons to be Unpin, the improper names, and how many struct items there are, with their order and tiers.
 pub fn accepted(
     table: &Names,
+    unpin: [Option<UnpinReason>; name::COUNT],
     improper: NameSet,
     structs: u8,
     order: [u8; 255],
     tiers: [u8; 255],
     total: usize,
 ) -> Answer
-    ensures { result ≡ answer_with table.now improper.words structs order tiers total }
+    ensures { result ≡ answer_with table.now unpin improper.words structs order tiers total }
 {
     let shared = known::set_of(table, set::STRUCTS);
     let enums = known::set_of(table, set::ENUMS);
@@ -70,6 +72,7 @@ pub fn accepted(
             names::size(improper),
         ],
         reasons: reasons(table),
+        unpin,
         structs,
         order,
         tiers,

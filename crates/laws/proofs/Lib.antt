@@ -12,3 +12,5 @@ pub mod Rows
 pub mod Report
 -- rule 3, the tier rule, and the call
 pub mod Rule3
+-- reasons to be Unpin: their rule, and the call
+pub mod Unpin

@@ -1,5 +1,4 @@
 pub mod Skip
-pub mod Reach
 pub mod Visits
 pub mod RowSteps
 pub mod Tells

@@ -6,7 +6,7 @@ mod input; // the stored file
 mod port; // what the port says of a sheet
 
 use input::{Ended, StoredFile, long_at};
-use layout::{ORDER, REASONS, SETS, SIZES, TIERS};
+use layout::{ORDER, REASONS, SETS, SIZES, TIERS, UNPIN};
 use rules::limit::ITEMS;
 use rules::size::{ANSWER, PAGE, RECORD, SCRATCH};
 use std::fmt;
@@ -25,6 +25,7 @@ enum Part {
     Reasons,
     Order,
     Tiers,
+    Unpin,
     Rows,
     Records,
 }
@@ -40,6 +41,7 @@ impl fmt::Display for Part {
             Part::Reasons => "reasons",
             Part::Order => "order",
             Part::Tiers => "tiers",
+            Part::Unpin => "reasons to be Unpin",
             Part::Rows => "collected rows",
             Part::Records => "records",
         })
@@ -54,7 +56,7 @@ const TOTAL: usize = 8;
 const FOLLOWING: usize = 12;
 
 // The parts of fixed length, in the order of the stored answer, and where each stands in ours.
-const FIXED: [(Part, Range<usize>); 8] = [
+const FIXED: [(Part, Range<usize>); 9] = [
     (Part::Verdict, 0..1),
     (Part::Position, POSITION..TOTAL),
     (Part::Total, TOTAL..FOLLOWING),
@@ -63,6 +65,7 @@ const FIXED: [(Part, Range<usize>); 8] = [
     (Part::Reasons, REASONS..ORDER),
     (Part::Order, ORDER..ORDER + ITEMS),
     (Part::Tiers, TIERS..TIERS + ITEMS),
+    (Part::Unpin, UNPIN..ANSWER),
 ];
 
 // Reads the parts of fixed length, and gives the first that differs.

@@ -2,7 +2,7 @@
 -- Assumes nothing: these are definitions.
 use Rattle.std.specs.Prelude.{ℕ, ◌-◌, List, [], ◌∷◌, ◌++◌, map, length, take, drop, replicate, leb}
 use Rattle.rules.specs.Numbers.{name_count, set_count, most_items, scratch_size}
-use Rattle.std.specs.Prelude.{Result, Ok, Err}
+use Rattle.std.specs.Prelude.{Result, Ok, Err, None}
 use Rattle.rules.specs.declared.Refusal.{Refusal}
 use Rattle.rules.specs.declared.Fault.{Fault}
 use Rattle.rules.specs.declared.Fault.TheVariants.{ShortScratch, LongSheet, ShortSheet, TooMany, Misplaced, BadValue, BadRow, EqualRow}
@@ -14,6 +14,7 @@ use Rattle.rules.specs.Names.{Words, empty, size}
 use Rattle.rules.specs.View.{items}
 use Rattle.rules.specs.Collect.{structs_to}
 use Rattle.rules.specs.Types.{Types, types_of}
+use Rattle.rules.specs.Unpin.{unpin_of}
 use Rattle.rules.specs.Walk.{Out}
 use Rattle.rules.specs.Order.{graph_of, walk_of}
 use Rattle.rules.specs.Tiers.{tiers_of}
@@ -51,7 +52,7 @@ name_set w = record { words = w }
 
 -- ## Refused
 
--- empty sets, and 0 for all else
+-- empty sets, no reasons, and 0 for all else
 unfoldable pub refused : Refusal → Answer
 refused r =
     record {
@@ -59,6 +60,7 @@ refused r =
       sets = replicate set_count (name_set empty);
       sizes = replicate set_count 0;
       reasons = replicate name_count 0;
+      unpin = replicate name_count None;
       structs = 0;
       order = replicate most_items 0;
       tiers = replicate most_items 0;
@@ -83,6 +85,7 @@ accepted s t walk report =
       sets = map name_set names;
       sizes = map size names;
       reasons = t.reasons;
+      unpin = unpin_of s t;
       structs = structs_to s (items s);
       order = places walk.sorted;
       tiers = places (tiers_of (graph_of s t) (items s));

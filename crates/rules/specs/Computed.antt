@@ -21,6 +21,8 @@ use Rattle.rules.specs.Collect.{duplicates, enter, visit, shown_by, collected_to
 use Rattle.rules.specs.Trivial.{extern_in, insist, reasons_of_item, reasons_of_row, reason_names, reasons_of, required_of}
 use Rattle.rules.specs.Types.{types_of, is_struct, is_enum, is_cxx, is_rust, is_alias, is_untrusted, is_required_trivial}
 use Rattle.rules.specs.Types.{is_extern, is_opaque, struct_of, untrusted_of, type_of, reasons_for}
+use Rattle.rules.specs.Unpin.{find_row, over_extern, is_mut_slice, is_mut_ref, is_mut_method, find_item, find_rows, find_items}
+use Rattle.rules.specs.Unpin.{finds, last_for, last_of_all, unpin_of, reason_of}
 use Rattle.rules.specs.Walk.{field_out, fields_out, visit_out, item_out, items_out, sort_out}
 use Rattle.rules.specs.Order.{plain_lead, walk_of}
 use Rattle.rules.specs.Tiers.{largest, one_above, longest, tiers_of}
@@ -55,7 +57,8 @@ unfolding ones_in if'◌then◌else◌ over some any_of each pair_at offset one 
     receiver_pinned return_place return has_return arg_count arg args impl_row impl_negative when names_to last_to enters_structs enters_enums
     enters_cxx enters_rust enters_aliases enters_untrusted structs_to duplicate_type same_function duplicate_function duplicate duplicates enter
     visit shown_by collected_to extern_in insist reasons_of_item reasons_of_row reason_names reasons_of required_of types_of is_struct is_enum
-    is_cxx is_rust is_alias is_untrusted is_required_trivial is_extern is_opaque struct_of untrusted_of type_of reasons_for field_out fields_out
+    is_cxx is_rust is_alias is_untrusted is_required_trivial is_extern is_opaque struct_of untrusted_of type_of reasons_for find_row over_extern
+    is_mut_slice is_mut_ref is_mut_method find_item find_rows find_items finds last_for last_of_all unpin_of reason_of field_out fields_out
     visit_out item_out items_out sort_out plain_lead walk_of largest one_above longest tiers_of look_name look_row looks_fields looks_look found
     is_new pass_to search improper_of check_reserved_name check_reserved_lifetime check_lifetimes is_unsized_ident is_unsized_within is_unsized
     describe_ident describe check_type_ident check_type_box check_type_rust_vec check_type_unique_ptr check_counted_ptr check_type_shared_ptr

@@ -1,13 +1,17 @@
--- The eleven sheets of docs/RULES.md, in one table with what is expected of each, and one theorem; and the examples of the refusal table.
+-- The eleven sheets of docs/RULES.md and sheets for what came after them, in one table with what is expected of each, and one theorem; and the examples of the
+-- refusal table.
 -- Assumes nothing.
-use Rattle.std.specs.Prelude.{ℕ, ◌≡◌, refl, List, [], ◌∷◌, ◌++◌, map, replicate}
+use native.Mathlib.Omega.{arith}
+use Rattle.std.specs.Prelude.{ℕ, ◌<◌, ◌≡◌, refl, List, [], ◌∷◌, ◌++◌, map, replicate}
 use Rattle.rules.specs.declared.Place.TheVariants.{R, I, F, A, D}
+use Rattle.rules.specs.declared.UnpinReason.TheVariants.{Row, Item}
 use Rattle.rules.specs.Diagnostics.{say, tell}
 use Rattle.rules.specs.declared.Fault.{Fault}
 use Rattle.rules.specs.declared.Fault.TheVariants.{ShortScratch, LongSheet, ShortSheet, TooMany, Misplaced, BadValue, BadRow, EqualRow}
 use Rattle.rules.specs.Answer.{Outcome, refused}
 use Rattle.rules.specs.Table.{Expected, outcome_of, blanks, scratch}
 use Rattle.rules.specs.Computed.{bytes, computed}
+use Rattle.rules.specs.Reach.{Reached, here, on}
 
 -- a sheet, as pairs, and what is expected of it
 pub record Case : Type 0 where
@@ -19,7 +23,7 @@ cases =
     -- 1. all empty
     record {
       sheet = 0 ∷ 0 ∷ [];
-      expected = record { name_sets = [] ∷ [] ∷ [] ∷ [] ∷ [] ∷ [] ∷ [] ∷ [] ∷ []; reasons = []; order = []; tiers = []; report = [] };
+      expected = record { name_sets = [] ∷ [] ∷ [] ∷ [] ∷ [] ∷ [] ∷ [] ∷ [] ∷ []; reasons = []; unpin = []; order = []; tiers = []; report = [] };
     }
     -- 2. the worked sheet
     ∷ record {
@@ -27,6 +31,7 @@ cases =
       expected = record {
         name_sets = (24 ∷ 25 ∷ []) ∷ [] ∷ [] ∷ [] ∷ [] ∷ [] ∷ [] ∷ [] ∷ [];
         reasons = [];
+        unpin = [];
         order = (1 ∷ 0 ∷ []);
         tiers = (255 ∷ 255 ∷ []);
         report = say 2 (F 1 0) ++ say 2 (F 0 0);
@@ -38,6 +43,7 @@ cases =
       expected = record {
         name_sets = (24 ∷ 25 ∷ []) ∷ [] ∷ [] ∷ [] ∷ [] ∷ [] ∷ [] ∷ [] ∷ [];
         reasons = [];
+        unpin = [];
         order = (0 ∷ 1 ∷ []);
         tiers = (255 ∷ 255 ∷ []);
         report = say 2 (F 0 0);
@@ -46,7 +52,14 @@ cases =
     -- 4. a struct that holds an array of itself
     ∷ record {
       sheet = 2 ∷ 1 ∷ 10 ∷ 14 ∷ 20 ∷ 0 ∷ 24 ∷ 11 ∷ 3 ∷ 0 ∷ 1 ∷ 24 ∷ 0 ∷ 0 ∷ 1 ∷ 1 ∷ [];
-      expected = record { name_sets = (24 ∷ []) ∷ [] ∷ [] ∷ [] ∷ [] ∷ [] ∷ [] ∷ [] ∷ []; reasons = []; order = (0 ∷ []); tiers = (0 ∷ []); report = [] };
+      expected = record {
+        name_sets = (24 ∷ []) ∷ [] ∷ [] ∷ [] ∷ [] ∷ [] ∷ [] ∷ [] ∷ [];
+        reasons = [];
+        unpin = [];
+        order = (0 ∷ []);
+        tiers = (0 ∷ []);
+        report = [];
+      };
     }
     -- 5. a name twice
     ∷ record {
@@ -54,6 +67,7 @@ cases =
       expected = record {
         name_sets = (24 ∷ []) ∷ [] ∷ [] ∷ [] ∷ [] ∷ [] ∷ [] ∷ [] ∷ [];
         reasons = [];
+        unpin = [];
         order = (1 ∷ 0 ∷ []);
         tiers = (1 ∷ 0 ∷ []);
         report = say 1 (I 1);
@@ -65,6 +79,7 @@ cases =
       expected = record {
         name_sets = (2 ∷ []) ∷ [] ∷ [] ∷ [] ∷ [] ∷ [] ∷ [] ∷ [] ∷ [];
         reasons = [];
+        unpin = [];
         order = (0 ∷ []);
         tiers = (255 ∷ []);
         report = say 2 (F 0 0) ++ say 57 (I 0);
@@ -76,6 +91,7 @@ cases =
       expected = record {
         name_sets = [] ∷ [] ∷ [] ∷ [] ∷ [] ∷ [] ∷ [] ∷ [] ∷ [];
         reasons = [];
+        unpin = [];
         order = [];
         tiers = [];
         report = say 9 (R 2) ++ say 17 (R 3)
@@ -89,6 +105,7 @@ cases =
       expected = record {
         name_sets = [] ∷ (24 ∷ 25 ∷ 26 ∷ []) ∷ [] ∷ [] ∷ [] ∷ [] ∷ [] ∷ [] ∷ [];
         reasons = [];
+        unpin = [];
         order = [];
         tiers = [];
         report = tell 34 (D 0 0) 0 ++ tell 34 (D 2 0) 2;
@@ -97,7 +114,14 @@ cases =
     -- 9. no variants, without and with an explicit repr
     ∷ record {
       sheet = 1 ∷ 2 ∷ 10 ∷ 14 ∷ 30 ∷ 0 ∷ 2 ∷ 2 ∷ 24 ∷ 0 ∷ 0 ∷ 0 ∷ 0 ∷ 0 ∷ 0 ∷ 2 ∷ 25 ∷ 0 ∷ 0 ∷ 0 ∷ 1 ∷ 0 ∷ 0 ∷ [];
-      expected = record { name_sets = [] ∷ (24 ∷ 25 ∷ []) ∷ [] ∷ [] ∷ [] ∷ [] ∷ [] ∷ [] ∷ []; reasons = []; order = []; tiers = []; report = say 33 (I 0) };
+      expected = record {
+        name_sets = [] ∷ (24 ∷ 25 ∷ []) ∷ [] ∷ [] ∷ [] ∷ [] ∷ [] ∷ [] ∷ [];
+        reasons = [];
+        unpin = [];
+        order = [];
+        tiers = [];
+        report = say 33 (I 0);
+      };
     }
     -- 10. A holds &B, B holds RustString
     ∷ record {
@@ -105,6 +129,7 @@ cases =
       expected = record {
         name_sets = (24 ∷ 25 ∷ []) ∷ [] ∷ [] ∷ [] ∷ [] ∷ [] ∷ [] ∷ (24 ∷ 25 ∷ []) ∷ [];
         reasons = [];
+        unpin = [];
         order = (0 ∷ 1 ∷ []);
         tiers = (0 ∷ 0 ∷ []);
         report = [];
@@ -116,6 +141,7 @@ cases =
       expected = record {
         name_sets = (24 ∷ 25 ∷ []) ∷ [] ∷ (24 ∷ 25 ∷ []) ∷ [] ∷ (24 ∷ 25 ∷ []) ∷ [] ∷ [] ∷ [] ∷ [];
         reasons = [];
+        unpin = [];
         order = (1 ∷ 2 ∷ []);
         tiers = [];
         report = say 1 (I 3);
@@ -124,7 +150,95 @@ cases =
     -- one sheet more, for a slip that the eleven do not show: WeakPtr of Bool as an argument is let stand
     ∷ record {
       sheet = 2 ∷ 1 ∷ 10 ∷ 14 ∷ 18 ∷ 0 ∷ 0 ∷ 5 ∷ 0 ∷ 5 ∷ 30 ∷ 0 ∷ 0 ∷ 0 ∷ 65535 ∷ 1 ∷ 1 ∷ [];
-      expected = record { name_sets = [] ∷ [] ∷ [] ∷ [] ∷ [] ∷ [] ∷ [] ∷ [] ∷ []; reasons = []; order = []; tiers = []; report = [] };
+      expected = record { name_sets = [] ∷ [] ∷ [] ∷ [] ∷ [] ∷ [] ∷ [] ∷ [] ∷ []; reasons = []; unpin = []; order = []; tiers = []; report = [] };
+    }
+    -- reasons to be Unpin. A CxxType alone, and a function over a mutable reference to it
+    ∷ record {
+      sheet = 2 ∷ 2 ∷ 12 ∷ 16 ∷ 22 ∷ 32 ∷ 0 ∷ 27 ∷ 7 ∷ 1 ∷ 0 ∷ 3 ∷ 27 ∷ 0 ∷ 0 ∷ 0 ∷ 5 ∷ 30 ∷ 0 ∷ 0 ∷ 0 ∷ 65535 ∷ 1 ∷ 1 ∷ [];
+      expected = record {
+        name_sets = [] ∷ [] ∷ (27 ∷ []) ∷ [] ∷ [] ∷ (27 ∷ []) ∷ [] ∷ [] ∷ [];
+        reasons = [];
+        unpin = (27, Row 1) ∷ [];
+        order = [];
+        tiers = [];
+        report = say 18 (R 1);
+      };
+    }
+    -- an alias with all three: the reference stands, though a slice is collected after it and a method comes later
+    ∷ record {
+      sheet = 3 ∷ 3 ∷ 16 ∷ 20 ∷ 26 ∷ 32 ∷ 40 ∷ 58 ∷ 0 ∷ 27 ∷ 7 ∷ 1 ∷ 0 ∷ 10 ∷ 1 ∷ 0 ∷ 7 ∷ 27 ∷ 0 ∷ 0 ∷ 5 ∷ 30 ∷ 0 ∷ 0 ∷ 0 ∷ 65535 ∷ 2 ∷ 1 ∷ 2 ∷ 5 ∷ 31 ∷ 0
+          ∷ 0 ∷ 2 ∷ 27 ∷ 1 ∷ 65535 ∷ 0 ∷ [];
+      expected = record {
+        name_sets = [] ∷ [] ∷ (27 ∷ []) ∷ [] ∷ (27 ∷ []) ∷ [] ∷ (27 ∷ []) ∷ [] ∷ [];
+        reasons = (27, 1) ∷ [];
+        unpin = (27, Row 1) ∷ [];
+        order = [];
+        tiers = [];
+        report = [];
+      };
+    }
+    -- a receiver after a slice: of two methods the last; a pinned method, a pinned reference and an associated function do not count
+    ∷ record {
+      sheet = 3 ∷ 5 ∷ 20 ∷ 24 ∷ 30 ∷ 36 ∷ 44 ∷ 62 ∷ 80 ∷ 98 ∷ 0 ∷ 27 ∷ 10 ∷ 1 ∷ 0 ∷ 7 ∷ 3 ∷ 0 ∷ 7 ∷ 27 ∷ 0 ∷ 0 ∷ 5 ∷ 30 ∷ 0 ∷ 0 ∷ 2 ∷ 27 ∷ 1 ∷ 65535 ∷ 0 ∷
+          6 ∷ 31 ∷ 0 ∷ 0 ∷ 2 ∷ 27 ∷ 1 ∷ 65535 ∷ 0 ∷ 5 ∷ 32 ∷ 0 ∷ 0 ∷ 2 ∷ 27 ∷ 3 ∷ 65535 ∷ 0 ∷ 5 ∷ 33 ∷ 0 ∷ 0 ∷ 1 ∷ 27 ∷ 1 ∷ 1 ∷ 2 ∷ [];
+      expected = record {
+        name_sets = [] ∷ [] ∷ (27 ∷ []) ∷ [] ∷ (27 ∷ []) ∷ [] ∷ (27 ∷ []) ∷ [] ∷ [];
+        reasons = (27, 1) ∷ [];
+        unpin = (27, Item 2) ∷ [];
+        order = [];
+        tiers = [];
+        report = [];
+      };
+    }
+    -- struct and alias of one name, with all three: none
+    ∷ record {
+      sheet = 4 ∷ 4 ∷ 20 ∷ 24 ∷ 30 ∷ 36 ∷ 40 ∷ 52 ∷ 60 ∷ 78 ∷ 0 ∷ 27 ∷ 7 ∷ 1 ∷ 0 ∷ 10 ∷ 1 ∷ 0 ∷ 0 ∷ 2 ∷ 1 ∷ 27 ∷ 0 ∷ 0 ∷ 1 ∷ 3 ∷ 7 ∷ 27 ∷ 0 ∷ 0 ∷ 5 ∷ 30 ∷
+          0 ∷ 0 ∷ 0 ∷ 65535 ∷ 2 ∷ 1 ∷ 2 ∷ 5 ∷ 31 ∷ 0 ∷ 0 ∷ 2 ∷ 27 ∷ 1 ∷ 65535 ∷ 0 ∷ [];
+      expected = record {
+        name_sets = (27 ∷ []) ∷ [] ∷ (27 ∷ []) ∷ [] ∷ (27 ∷ []) ∷ [] ∷ [] ∷ [] ∷ [];
+        reasons = [];
+        unpin = [];
+        order = (0 ∷ []);
+        tiers = (0 ∷ []);
+        report = say 1 (I 1);
+      };
+    }
+    -- Self is a name like others: a method of it says nothing of the alias before it
+    ∷ record {
+      sheet = 0 ∷ 2 ∷ 8 ∷ 16 ∷ 7 ∷ 27 ∷ 0 ∷ 0 ∷ 5 ∷ 30 ∷ 0 ∷ 0 ∷ 2 ∷ 23 ∷ 1 ∷ 65535 ∷ 0 ∷ [];
+      expected = record {
+        name_sets = [] ∷ [] ∷ (27 ∷ []) ∷ [] ∷ (27 ∷ []) ∷ [] ∷ [] ∷ [] ∷ [];
+        reasons = [];
+        unpin = [];
+        order = [];
+        tiers = [];
+        report = say 41 (I 1);
+      };
+    }
+    -- and has a reason where an alias bears it
+    ∷ record {
+      sheet = 0 ∷ 2 ∷ 8 ∷ 16 ∷ 7 ∷ 23 ∷ 0 ∷ 0 ∷ 5 ∷ 30 ∷ 0 ∷ 0 ∷ 2 ∷ 23 ∷ 1 ∷ 65535 ∷ 0 ∷ [];
+      expected = record {
+        name_sets = [] ∷ [] ∷ (23 ∷ []) ∷ [] ∷ (23 ∷ []) ∷ [] ∷ [] ∷ [] ∷ [];
+        reasons = [];
+        unpin = (23, Item 1) ∷ [];
+        order = [];
+        tiers = [];
+        report = say 41 (I 1);
+      };
+    }
+    -- a slice, a reference and a receiver that are not mutable: none
+    ∷ record {
+      sheet = 3 ∷ 3 ∷ 16 ∷ 20 ∷ 26 ∷ 32 ∷ 40 ∷ 58 ∷ 0 ∷ 27 ∷ 10 ∷ 0 ∷ 0 ∷ 7 ∷ 0 ∷ 0 ∷ 7 ∷ 27 ∷ 0 ∷ 0 ∷ 5 ∷ 30 ∷ 0 ∷ 0 ∷ 0 ∷ 65535 ∷ 2 ∷ 1 ∷ 2 ∷ 5 ∷ 31 ∷ 0
+          ∷ 0 ∷ 2 ∷ 27 ∷ 0 ∷ 65535 ∷ 0 ∷ [];
+      expected = record {
+        name_sets = [] ∷ [] ∷ (27 ∷ []) ∷ [] ∷ (27 ∷ []) ∷ [] ∷ (27 ∷ []) ∷ [] ∷ [];
+        reasons = (27, 1) ∷ [];
+        unpin = [];
+        order = [];
+        tiers = [];
+        report = [];
+      };
     }
     ∷ []
 
@@ -168,3 +282,18 @@ short : ((computed worked scratch (blanks 1)).list ≡ say 2 (F 1 0)) × ((compu
     × ((computed worked scratch []).list ≡ [])
 unfolding computed worked
 short = (refl, refl, refl)
+
+-- ## What an item reaches: the row that it shows, and the rows that this one shows
+
+-- a CxxType, and a function over a mutable reference to it
+handle : List ℕ
+handle = bytes (2 ∷ 2 ∷ 12 ∷ 16 ∷ 22 ∷ 32 ∷ 0 ∷ 27 ∷ 7 ∷ 1 ∷ 0 ∷ 3 ∷ 27 ∷ 0 ∷ 0 ∷ 0 ∷ 5 ∷ 30 ∷ 0 ∷ 0 ∷ 0 ∷ 65535 ∷ 1 ∷ 1 ∷ [])
+
+reaches : Reached handle 2 1 × Reached handle 2 0
+unfolding computed handle
+reaches =
+    let one : 0 < 1 = omega arith in
+    let item : 1 < 2 = omega arith in (
+      record { item = 1; below = item; row = 1; shows = one; reaches = here },
+      record { item = 1; below = item; row = 1; shows = one; reaches = on one here },
+    )

@@ -218,11 +218,15 @@ report_size = most_bytes
 
 -- bytes of an answer before its records, and of a record
 abbrev pub answer_size : ℕ
-answer_size = 1312
+answer_size = 1824
 
 abbrev pub record_size : ℕ
 record_size = 8
 
 -- the version of the answer's bytes
 abbrev pub layout_version : ℕ
-layout_version = 1
+layout_version = 2
+
+-- in the answer's bytes, reasons to be Unpin that are items begin with this number
+abbrev pub item_reasons : ℕ
+item_reasons = 32768

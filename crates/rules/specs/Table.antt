@@ -6,14 +6,17 @@ use Rattle.rules.specs.Numbers.{name_count, most_items, scratch_size}
 use Rattle.rules.specs.declared.Place.TheVariants.{I}
 use Rattle.rules.specs.declared.Diagnostic.{Diagnostic}
 use Rattle.rules.specs.Names.{Words, empty}
-use Rattle.std.specs.Prelude.{Ok}
+use Rattle.std.specs.Prelude.{Ok, Some, None}
+use Rattle.rules.specs.declared.UnpinReason.{UnpinReason}
 use Rattle.rules.specs.declared.Answer.{Answer}
 use Rattle.rules.specs.Answer.{Outcome, name_set}
 
--- an accepted sheet, by the names of each set, the names with reasons and how many they have, the items in order, the tier of each item, and the full report
+-- an accepted sheet, by the names of each set, the names with reasons to be trivial and how many they have, the names with a reason to be Unpin and which that
+-- is, the items in order, the tier of each item, and the full report
 pub record Expected : Type 0 where
   pub name_sets : List (List ℕ)
   pub reasons : List (ℕ × ℕ)
+  pub unpin : List (ℕ × UnpinReason)
   pub order : List ℕ
   pub tiers : List ℕ
   pub report : List Diagnostic
@@ -26,7 +29,7 @@ padded n l = l ++ replicate (n - length l) 0
 abbrev pub words_of : List ℕ → Words
 words_of ns = foldl (λ w n. set w (n / 64) (get_or w (n / 64) 0 + 2 ^ (n % 64))) empty ns
 
-abbrev pub spread : List ℕ → List (ℕ × ℕ) → List ℕ
+abbrev pub spread : {A : Type 0} → List A → List (ℕ × A) → List A
 spread t [] = t
 spread t (p ∷ ps) = spread (set t p.0 p.1) ps
 
@@ -37,6 +40,7 @@ expected_answer e =
       sets = map (λ names. name_set (words_of names)) e.name_sets;
       sizes = map length e.name_sets;
       reasons = spread (replicate name_count 0) e.reasons;
+      unpin = spread (replicate name_count None) (map (λ (p : ℕ × UnpinReason). (p.0, Some p.1)) e.unpin);
       structs = length e.order;
       order = padded most_items e.order;
       tiers = padded most_items e.tiers;

@@ -50,7 +50,7 @@ after : (records : ℕ) → List ℕ
 unfolding expected_answer
 after n =
     text_of
-    (expected_answer (record { name_sets = replicate 8 []; reasons = []; order = []; tiers = []; report = [] }))
+    (expected_answer (record { name_sets = replicate 8 []; reasons = []; unpin = []; order = []; tiers = []; report = [] }))
     (replicate n (record { message = 2; place = F 1 0; detail = 0 }))
 
 -- 513 print as many as 512

@@ -74,6 +74,13 @@ pub struct NameSet {
     pub words: [u64; 4],
 }
 
+// Why a C++ name must be Unpin: the row of a slice or of a reference; or the item of a method.
+#[derive(Clone, Copy)]
+pub enum UnpinReason {
+    Row(u16),
+    Item(u8),
+}
+
 // What one call answers. Its fields are those of docs/DECISIONS.md: beside a refusal all are empty, and lists and sets have their sizes beside them.
 #[derive(Clone, Copy)]
 pub struct Answer {
@@ -83,6 +90,8 @@ pub struct Answer {
     pub sizes: [u16; 8],
     // how many reasons each name has to be trivial
     pub reasons: [u16; 256],
+    // why each name must be Unpin, if it must
+    pub unpin: [Option<UnpinReason>; 256],
     // how many struct items there are
     pub structs: u8,
     // struct items in order, then zeros

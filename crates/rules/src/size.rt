@@ -11,9 +11,12 @@ pub const PAGE: usize = 4096;
 pub const REPORT: usize = BYTES;
 
 // Bytes of an answer before its records, and of a record.
-pub const ANSWER: usize = 1312;
+pub const ANSWER: usize = 1824;
 
 pub const RECORD: usize = 8;
 
 // The version of the answer's bytes.
-pub const LAYOUT_VERSION: u8 = 1;
+pub const LAYOUT_VERSION: u8 = 2;
+
+// In the answer's bytes, reasons to be Unpin that are items begin with this number.
+pub const ITEM_REASONS: u16 = 32768;

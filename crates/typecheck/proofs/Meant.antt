@@ -16,6 +16,7 @@ use Rattle.rules.specs.Diagnostics.{say, tell, when}
 use Rattle.rules.specs.View.{rows, is, item_is, field_count, field, function_unsafe, return, has_return, arg_count, arg}
 use Rattle.rules.specs.Types.{Types}
 use Rattle.rules.specs.Check.{check_struct_field, check_fn_arg, check_fn_return}
+use Rattle.laws.proofs.Base.Lists.{over-same}
 use Rattle.laws.proofs.Base.Tests.{never}
 use Rattle.laws.specs.Kinds.{RowOrNone}
 use Rattle.laws.specs.RowTable.{entry_or}
@@ -25,11 +26,6 @@ use Rattle.row_tables.specs.Tables.{FaultRows}
 use Rattle.row_tables.proofs.FaultLaws.{fault-read}
 use Rattle.typecheck.specs.Tests.{struct_field, struct_fields, function_of, function_arg, function_args, function_return}
 use Rattle.typecheck.proofs.Faults.{row-says, row-says-after}
-
-over-same : (n : ℕ) (f g : ℕ → List Diagnostic) → ((k : ℕ) → k < n → f k ≡ g k) → over n f ≡ over n g
-unfolding over
-over-same zero f g h = refl
-over-same (suc n) f g h = rw (h n (omega arith), over-same n f g (λ k l. h k (omega arith)))
 
 module _ (s : List ℕ) (t : Types) (u : List (Option Misfit)) (right : FaultRows s t u) (i : ℕ) where
   -- ## Fields

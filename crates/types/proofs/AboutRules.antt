@@ -1,9 +1,8 @@
--- About the definitions of the rules alone: sets of any number of words (`has-added`, `has-none`), tests and lists over the numbers below a bound.
+-- About the definitions of the rules alone: sets of any number of words (`has-added`, `has-none`), and tests over the numbers below a bound.
 -- Assumes nothing.
 use Prim.Native.Nat.{ℕ, zero, suc, ◌/◌, ◌%◌, ◌^◌, ◌<◌}
 use mathlib.Core.Path.{◌≡◌, refl, sym, ap, ◌∙◌}
 use mathlib.Core.Bool.{Bool, true, false, ◌||◌}
-use mathlib.Core.List.{List}
 use native.Mathlib.Omega.{arith}
 use native.Mathlib.Nat.{zero-div}
 use lib.Bits.{bit_or}
@@ -11,7 +10,7 @@ use lib.Dec.{eqb}
 use lib.ListN.{length, get_or, set, replicate}
 use lib.Seq.{get_or-set_same, get_or-set_other}
 use borrow.Author.Tests.{eq-eqb, ne_eqb, eqb-true, eqb-false}
-use Rattle.rules.specs.Base.{over, some}
+use Rattle.rules.specs.Base.{some}
 use Rattle.rules.specs.Names.{Words, bit_of, add, ◌∋◌}
 use Rattle.laws.proofs.Base.Counts.{Eq?, same, other, eq?}
 use Rattle.laws.proofs.Base.Lists.{zeros-get}
@@ -40,7 +39,7 @@ pub has-none : (n x : ℕ) → (replicate n 0 ∋ x) ≡ false
 unfolding ◌∋◌ bit_of
 has-none n x = ap (λ w. eqb (w / 2 ^ (x % 64) % 2) 1) (zeros-get n (x / 64)) ∙ ap (λ m. eqb (m % 2) 1) (zero-div (2 ^ (x % 64)))
 
--- ## Tests and lists over the numbers below a bound
+-- ## Tests over the numbers below a bound
 
 pub some_same : (k : ℕ) (p q : ℕ → Bool) → ((j : ℕ) → j < k → p j ≡ q j) → some k p ≡ some k q
 unfolding some
@@ -48,8 +47,3 @@ some_same zero p q h = refl
 some_same (suc k) p q h =
     ap (λ (b : Bool). elim b as (λ _. Bool) [ true ↦ true | false ↦ some k p ]) (h k (omega arith))
     ∙ ap (λ (t : Bool). elim (q k) as (λ _. Bool) [ true ↦ true | false ↦ t ]) (some_same k p q (λ j l. h j (omega arith)))
-
-pub over-same : (n : ℕ) (f g : ℕ → List ℕ) → ((k : ℕ) → k < n → f k ≡ g k) → over n f ≡ over n g
-unfolding over
-over-same zero f g h = refl
-over-same (suc n) f g h = rw (h n (omega arith), over-same n f g (λ k l. h k (omega arith)))

@@ -23,32 +23,18 @@ use Rattle.rules.specs.View.{item_is, is_function, rest, field_count, field, ret
 use Rattle.rules.specs.Trivial.{extern_in, insist, reasons_of_item, reasons_of_row}
 use Rattle.rules.specs.Types.{is_extern}
 use Rattle.laws.proofs.Base.Counts.{Eq?, same, other, eq?}
+use Rattle.laws.proofs.Base.Lists.{over_nothing}
 use Rattle.names.specs.Known.{column_count, table_size, entry_at, names_in, tabled, entered}
 use Rattle.names.proofs.Columns.{entry-out, entered-out, entered-long, entered_here, entered-there, entered-other, column-same}
 use Rattle.std.specs.Prelude.{Option, Some, None}
 use Rattle.types.specs.declared.reasons.Reasons.{Reasons}
-use Rattle.types.specs.Reasons.{Counted, most_reasons, one_more, tally, Tallied, Wants, of_plain, of_list, of_return, of_item, of_row, of_all}
+use Rattle.types.specs.Reasons.{Counted, most_reasons, one_more, counted, tally, Tallied, Wants, of_plain, of_list, of_return, of_item, of_row, of_all}
+use Rattle.types.proofs.Folding.{fold-none, fold-then}
 
 -- ## One list after another
 
 abbrev reasons : ℕ
 reasons = required_trivial_set
-
--- the table with one reason more for a name
-abbrev counted : (w : List ℕ) (n : ℕ) → List ℕ
-counted w n = entered w reasons true n (one_more (entry_at w reasons n))
-
-tally-append : (w xs ys : List ℕ) → tally (tally w xs) ys ≡ tally w (xs ++ ys)
-unfolding tally
-tally-append w [] ys = refl
-tally-append w (x ∷ xs) ys = tally-append (counted w x) xs ys
-
-pub tally-none : {w : List ℕ} → Tallied w [] w
-unfolding tally
-tally-none = record { is = refl }
-
-pub tally-then : {xs ys w u v : List ℕ} → Tallied w xs u → Tallied u ys v → Tallied w (xs ++ ys) v
-tally-then {xs} {ys} {w} p q = record { is = (rw p.is at q.is) ∙ tally-append w xs ys }
 
 -- what a table came to, where a reference ends
 pub tally-as : {w ns u v : List ℕ} → Tallied w ns u → v ≡ u → Tallied w ns v
@@ -56,7 +42,6 @@ tally-as p e = record { is = e ∙ p.is }
 
 -- every other column stays as it was
 pub tally-other : (ns w : List ℕ) (j n : ℕ) → j ≢ required_trivial_set → j < column_count → n < name_count → entry_at (tally w ns) j n ≡ entry_at w j n
-unfolding tally
 tally-other [] w j n ne h l = refl
 tally-other (m ∷ ns) w j n ne h l = tally-other ns (counted w m) j n ne h l ∙ entered-other w reasons m (one_more (entry_at w reasons m)) true j n ne h l
 
@@ -86,7 +71,7 @@ pub counted-then : {t u v : Reasons} {ns : List ℕ} (f : (s : List ℕ) → (�
     → Counted u (f u.s.now (is_extern (tabled u.s.now u.names.now))) v
     → Counted t (ns ++ f t.s.now (is_extern (tabled t.s.now t.names.now))) v
 counted-then {t} {u} {v} {ns} f p q = record {
-  names = tally-then p.names (tally-by t.s.now (f t.s.now) p.names (rw p.sheet at q.names));
+  names = fold-then p.names (tally-by t.s.now (f t.s.now) p.names (rw p.sheet at q.names));
   sheet = q.sheet ∙ p.sheet;
   wants = q.wants ∙ p.wants;
   same = q.same ∙ p.same;
@@ -99,7 +84,7 @@ pub counted-names : {t u : Reasons} {ns : List ℕ} → u.s ≡ t.s → u.wants 
 counted-names e f g p = record { names = p; sheet = e; wants = f; same = g }
 
 pub counted_none : {t : Reasons} → Counted t [] t
-counted_none = record { names = tally-none; sheet = refl; wants = refl; same = refl }
+counted_none = record { names = fold-none; sheet = refl; wants = refl; same = refl }
 
 module _ (f : (s : List ℕ) → (ℕ → Bool) → ℕ → List ℕ) {t : Reasons} where
   pub over_none : Counted t (over 0 (f t.s.now (is_extern (tabled t.s.now t.names.now)))) t
@@ -127,7 +112,6 @@ counted-once {x} {y} h e = go (dec_lt x most_reasons)
 pub name-counted : (w : List ℕ) (n : ℕ) {x y : ℕ} {u : List ℕ} → x ≡ entry_at w required_trivial_set n → y ≡ one_more x
     → u ≡ entered w required_trivial_set true n y
     → Tallied w (n ∷ []) u
-unfolding tally
 name-counted w n had more is = record { is = is ∙ ap (entered w reasons true n) (more ∙ ap one_more had) }
 
 module _ (s w : List ℕ) (r : ℕ) where
@@ -189,11 +173,6 @@ module _ (t : Reasons) (i : ℕ) {k : ℕ} (is_kind : k ≡ item_kind t.s.now i)
 
 -- ## No reasons at all
 
-over_nothing : (n : ℕ) (f : ℕ → List ℕ) → ((x : ℕ) → f x ≡ []) → over n f ≡ []
-unfolding over
-over_nothing zero f h = refl
-over_nothing (suc n) f h = rw (over_nothing n f h, h n)
-
 either-nothing : (b : Bool) (x y : List ℕ) → x ≡ [] → y ≡ [] → (if' b then x else y) ≡ []
 unfolding if'◌then◌else◌
 either-nothing true x y p q = p
@@ -215,12 +194,11 @@ module _ (s w : List ℕ) (none : (r : ℕ) → of_plain s w r ≡ []) where
   pub all_nothing : (scratch : List ℕ) (n : ℕ) → Tallied w (of_all s w scratch n) w
   all_nothing scratch n =
       let rows = over_nothing n (λ k. of_row s w (pair_at scratch (2 * k))) (λ k. row-nothing (pair_at scratch (2 * k))) in
-      rw (over_nothing (items s) (of_item s w) item-nothing, rows) tally-none
+      rw (over_nothing (items s) (of_item s w) item-nothing, rows) fold-none
 
 -- ## The counts are the rules'
 
 pub tally-long : (ns w : List ℕ) → length (tally w ns) ≡ length w
-unfolding tally
 tally-long [] w = refl
 tally-long (n ∷ ns) w = tally-long ns (counted w n) ∙ entered-long w reasons n (one_more (entry_at w reasons n)) true
 
@@ -231,7 +209,6 @@ one_more_lem x l = rw (lt-ltb x most_reasons l) refl
 -- a count grows by as often as its name stands in the list, where the reasons are few enough
 tally-is : (ns w : List ℕ) → length w ≡ table_size → ((n : ℕ) → entry_at w reasons n + length ns ≤ most_reasons) → (n : ℕ) → n < name_count
     → entry_at (tally w ns) reasons n ≡ entry_at w reasons n + count n ns
-unfolding tally
 tally-is [] w long h n l = omega arith
 tally-is (m ∷ ns) w long h n l = tally-is ns (counted w m) (entered-long w reasons m (one_more (entry_at w reasons m)) true ∙ long) fewer n l ∙ here (eq? n m)
   where

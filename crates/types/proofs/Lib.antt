@@ -1,4 +1,5 @@
 pub mod AboutRules
+pub mod Folding
 pub mod Walking
 pub mod Showing
 pub mod Naming
@@ -6,4 +7,5 @@ pub mod Keys
 pub mod Duplicated
 pub mod Passing
 pub mod Counting
+pub mod Noting
 pub mod Whole

@@ -1,6 +1,7 @@
 -- Reasons counted as the code counts them: in a column of the table of names, one more for each name of a list.
 -- Assumes nothing: these are definitions.
-use Rattle.std.specs.Prelude.{ℕ, ◌+◌, ◌*◌, ◌<◌, ◌≡◌, true, Bool, ◌||◌, List, [], ◌∷◌, ◌++◌, ltb, eqb, Option, Some, None}
+use Rattle.std.specs.Prelude.{ℕ, ◌+◌, ◌*◌, ◌<◌, ◌≡◌, true, Bool, ◌||◌, ltb, eqb, Option, Some, None}
+use mathlib.Core.List.{List, [], ◌++◌, foldl}
 use Rattle.rules.specs.Numbers.{RustBox, RustVec, SliceRef, required_trivial_set}
 use Rattle.rules.specs.Base.{if'◌then◌else◌, over}
 use Rattle.rules.specs.Format.{pair_at, Accepted}
@@ -10,6 +11,7 @@ use Rattle.rules.specs.Types.{is_extern}
 use Rattle.names.specs.Known.{entry_at, tabled, entered}
 use Rattle.row_tables.specs.Tables.{WantRows}
 use Rattle.types.specs.declared.reasons.Reasons.{Reasons}
+use Rattle.types.specs.Folded.{Folded}
 use Rattle.types.specs.Walk.{Inside}
 
 -- a count stops at its largest, so that no sum wraps and no caller owes a bound; no sheet has so many reasons
@@ -19,14 +21,17 @@ most_reasons = 65535
 unfoldable pub one_more : ℕ → ℕ
 one_more x = if' ltb x most_reasons then x + 1 else x
 
--- a table with one reason more for each name of a list
-unfoldable pub tally : List ℕ → List ℕ → List ℕ
-tally w [] = w
-tally w (n ∷ ns) = tally (entered w required_trivial_set true n (one_more (entry_at w required_trivial_set n))) ns
+-- a table with one reason more for a name
+abbrev pub counted : (w : List ℕ) (n : ℕ) → List ℕ
+counted w n = entered w required_trivial_set true n (one_more (entry_at w required_trivial_set n))
+
+-- and for each name of a list
+abbrev pub tally : (w ns : List ℕ) → List ℕ
+tally w ns = foldl counted w ns
 
 -- u is w with the reasons of a list counted
-pub record Tallied (w ns u : List ℕ) : Type 0 where
-  pub is : u ≡ tally w ns
+abbrev pub Tallied : (w ns u : List ℕ) → Type 0
+Tallied w ns u = Folded counted w ns u
 
 -- Box, Vec and slice give a reason for the name in them
 abbrev pub holder : (kind : ℕ) → Bool

@@ -10,7 +10,7 @@ use crate::sheet::NONE;
 const DECLARERS: usize = 12;
 
 /// `row` is a struct's field; an enum's repr is row 0, which is a name.
-fn declare(draft: &mut Draft, which: usize, name: u16, row: u16) {
+pub fn declare(draft: &mut Draft, which: usize, name: u16, row: u16) {
     match which {
         0 => draft.strct(name, &[row]),
         1 => draft.item(&[&[2, name, 0, 0, 0, 0, 2, 0]]),

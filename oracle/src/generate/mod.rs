@@ -4,6 +4,7 @@ mod broken;
 mod draft;
 mod full;
 mod graphs;
+mod handles;
 mod kinds;
 pub mod opaque;
 mod random;
@@ -26,7 +27,7 @@ const fn profile(name: &'static str, about: &'static str, make: Make) -> Profile
     Profile { name, about, make }
 }
 
-pub const PROFILES: [Profile; 26] = [
+pub const PROFILES: [Profile; 27] = [
     profile("tiny", "up to 6 rows and 4 items, names 0 to 30", random::tiny),
     profile("small", "up to 24 rows and 12 items, names 0 to 30", random::small),
     profile("medium", "up to 80 rows and 40 items, all names", random::medium),
@@ -53,6 +54,7 @@ pub const PROFILES: [Profile; 26] = [
     profile("values", "case by case: each pair replaced by bounds", broken::values),
     profile("damaged", "good sheets with random damage", broken::damaged),
     profile("changed", "good sheets with pairs of their bodies changed", broken::changed),
+    profile("handles", "C++ names, and slices, references and methods over them", handles::handles),
 ];
 
 impl Profile {

@@ -5,15 +5,17 @@ mod collect;
 mod graph;
 mod items;
 mod rows;
+mod unpin;
 
 use graph::tier;
-use oracle::judge::Record;
+use oracle::judge::{Reason, Record};
 use oracle::sheet::Sheet;
 
 /// What the rules give, in the form of the oracle's answer.
 pub struct Paper {
     pub sets: [Vec<usize>; 8],
     pub reasons: Vec<u16>,
+    pub unpin: Vec<Option<Reason>>,
     pub order: Vec<u8>,
     pub tiers: Vec<u8>,
     pub collected: Vec<u16>,
@@ -45,6 +47,7 @@ pub fn paper(sheet: &Sheet) -> Paper {
             members(&|name| graph::improper(sheet, &names, name)),
         ],
         reasons: names.reasons.to_vec(),
+        unpin: unpin::reasons(sheet, &names, &collected),
         tiers: (0..sheet.items.len()).map(|item| tier(sheet, &names, item)).collect(),
         order,
         collected,

@@ -7,7 +7,7 @@ use std::path::PathBuf;
 pub const HELP: &str = "\
 tirvouez: what the bridge check says of a driver's sheet
 
-  tirvouez check FILE...       each sheet's verdict, and each diagnostic in words
+  tirvouez check FILE...       each sheet's verdict, each diagnostic in words, and what must be Unpin
   tirvouez show FILE...        the sheet as text, its rows and items written like a bridge
   tirvouez order FILE...       the structs in order, with their tiers, and what each holds
   tirvouez make FILE.rows...   makes FILE.sheet of rows and items as text

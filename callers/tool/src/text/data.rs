@@ -8,7 +8,8 @@ use crate::text::names::Names;
 use crate::text::number;
 use crate::text::view::View;
 use std::collections::HashMap;
-use tirvouez::{Answer, Letter, Record, Set};
+use std::fmt::Write;
+use tirvouez::{Answer, Letter, Record, Set, UnpinReason};
 
 const SETS: [(&str, Set); 8] = [
     ("structs", Set::Structs),
@@ -29,6 +30,7 @@ pub fn push(out: &mut String, file: &str, sheet: &[u8], answer: Answer, names: &
         number::push(out, answer.total());
         push_sets(out, answer);
         push_reasons(out, answer);
+        push_unpin(out, answer);
         json::key(out, "order");
         json::numbers(out, answer.order().iter().map(|&item| usize::from(item)));
         json::key(out, "tiers");
@@ -55,6 +57,19 @@ fn push_reasons(out: &mut String, answer: Answer) {
     for name in (0..=LAST_NAME as u8).filter(|&name| answer.reasons(name) > 0) {
         json::key(out, &name.to_string());
         number::push(out, usize::from(answer.reasons(name)));
+    }
+    out.push('}');
+}
+
+fn push_unpin(out: &mut String, answer: Answer) {
+    json::key(out, "unpin");
+    out.push('{');
+    for (name, reason) in answer.unpin_reasons() {
+        json::key(out, &name.to_string());
+        let _ = match reason {
+            UnpinReason::Row(row) => write!(out, "{{\"row\":{row}}}"),
+            UnpinReason::Item(item) => write!(out, "{{\"item\":{item}}}"),
+        };
     }
     out.push('}');
 }

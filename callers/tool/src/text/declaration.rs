@@ -143,8 +143,7 @@ impl<'a> Declaration<'a> {
         self.named(if body.has(1) { "unsafe fn " } else { "fn " }, body, names);
         self.head.push('(');
         if let Form::Method { name, flags } = body.form {
-            let (before, after) = types::reference(flags & 1 != 0, flags & 2 != 0);
-            self.part(Part::Receiver, |text| *text += &format!("self: {before}{}{after}", names.of(name)));
+            self.part(Part::Receiver, |text| *text += &types::receiver(flags, names.of(name)));
             self.head += if body.rows.is_empty() { "" } else { ", " };
         }
         (self.letter, self.rows) = ('a', body.rows);

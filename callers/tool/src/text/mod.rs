@@ -9,5 +9,6 @@ pub mod number;
 pub mod place;
 pub mod refusal;
 pub mod types;
+pub mod unpin;
 pub mod uses;
 pub mod view;

@@ -46,7 +46,7 @@ fn push_row(out: &mut String, row: u16, view: &View) {
 }
 
 /// `argument 0 of item 4`
-fn push_use(out: &mut String, used: Use, view: &View) {
+pub fn push_use(out: &mut String, used: Use, view: &View) {
     let kind = view.sheet.item(used.item).map(|body| body.kind);
     match used.part {
         Part::Listed(number) => {

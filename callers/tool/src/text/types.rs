@@ -164,8 +164,14 @@ impl Types {
     }
 }
 
+/// `self: &mut n27`, by the flags of a method's receiver.
+pub fn receiver(flags: u16, name: &str) -> String {
+    let (before, after) = reference(flags & 1 != 0, flags & 2 != 0);
+    format!("self: {before}{name}{after}")
+}
+
 /// What stands around the name of a reference's target.
-pub fn reference(mutable: bool, pinned: bool) -> (&'static str, &'static str) {
+fn reference(mutable: bool, pinned: bool) -> (&'static str, &'static str) {
     match (mutable, pinned) {
         (false, false) => ("&", ""),
         (true, false) => ("&mut ", ""),

@@ -8,6 +8,7 @@ use crate::text::data;
 use crate::text::diagnostics::Diagnostics;
 use crate::text::number::Count;
 use crate::text::refusal;
+use crate::text::unpin;
 use crate::text::view::View;
 use tirvouez::{Answer, Record};
 
@@ -40,20 +41,20 @@ pub fn push_verdict(out: &mut String, file: &str, answer: Answer, style: &Style)
     *out += &format!("{bold}{file}{end}: {verdict}\n");
 }
 
-/// What makes the verdict, if it is not a clean one.
+/// What makes the verdict, if it is not a clean one, and which names must be Unpin.
 fn push_words(out: &mut String, context: &Context, sheet: &[u8], answer: Answer) {
-    if answer.verdict().is_ok() && answer.total() == 0 {
-        return;
-    }
     if let Err(verdict) = answer.verdict() {
         let (_, fault) = reader::read(sheet);
         refusal::push(out, verdict, fault.as_ref(), sheet, &context.style);
-    } else {
+    } else if answer.total() > 0 || answer.unpin_reasons().next().is_some() {
         let view = View::new(reader::read_accepted(sheet), context.names);
         let records: Vec<Record> = answer.records().collect();
         // room for most of what is said
         out.reserve(100 * records.len());
         Diagnostics::new(&view, context.style).push(out, &records);
+        unpin::push(out, answer, &view, &context.style);
+    } else {
+        return;
     }
     out.push('\n');
 }

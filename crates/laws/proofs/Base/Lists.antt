@@ -14,6 +14,18 @@ use Rattle.rules.specs.Answer.{places, filled}
 use Rattle.laws.proofs.Base.Counts.{Eq?, same, other, eq?}
 use Rattle.laws.proofs.Base.Stores.{sets_first}
 
+-- numbers of which none gives anything
+pub over_nothing : {A : Type 0} (n : ℕ) (f : ℕ → List A) → ((x : ℕ) → f x ≡ []) → over n f ≡ []
+unfolding over
+over_nothing zero f h = refl
+over_nothing (suc n) f h = rw (over_nothing n f h, h n)
+
+-- two functions that give the same
+pub over-same : {A : Type 0} (n : ℕ) (f g : ℕ → List A) → ((k : ℕ) → k < n → f k ≡ g k) → over n f ≡ over n g
+unfolding over
+over-same zero f g h = refl
+over-same (suc n) f g h = rw (h n (omega arith), over-same n f g (λ k l. h k (omega arith)))
+
 -- entries that give nothing
 pub over_skip : {A : Type 0} (f : ℕ → List A) (k z : ℕ) → ((j : ℕ) → j < z → f (k + j) ≡ []) → over k f ≡ over (k + z) f
 unfolding over

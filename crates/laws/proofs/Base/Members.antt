@@ -10,7 +10,7 @@ use native.Mathlib.Decide.{dec_lt}
 use lib.Dec.{eqb}
 use Rattle.rules.specs.Base.{over, any_of}
 use Rattle.rules.specs.Count.{count}
-use Rattle.laws.specs.Reach.{In}
+use Rattle.rules.specs.Reach.{In}
 use Rattle.laws.specs.Skip.{seen}
 use Rattle.laws.proofs.Base.Counts.{Eq?, same, other, eq?, eqb_same, count-append}
 

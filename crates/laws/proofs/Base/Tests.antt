@@ -90,6 +90,9 @@ pub both-are : (a b : Bool) → (a && b) ≡ true → (a ≡ true) × (b ≡ tru
 both-are true b h = (refl, h)
 both-are false b h = never h
 
+pub and_is : {a b : Bool} → a ≡ true → b ≡ true → (a && b) ≡ true
+and_is e d = rw (e, d) refl
+
 -- a implies b
 pub implied : (a b : Bool) → (not a || b) ≡ true → a ≡ true → b ≡ true
 implied true b h e = h

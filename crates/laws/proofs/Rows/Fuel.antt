@@ -15,7 +15,7 @@ use Rattle.rules.specs.Types.{Types}
 use Rattle.rules.specs.Improper.{Look, look_row}
 use Rattle.rules.specs.Check.{is_unsized_ident, is_unsized_within, is_unsized, is_lifetime_mut, find_lifetime_mut}
 use Rattle.laws.specs.Kinds.{is_through}
-use Rattle.laws.specs.Reach.{In}
+use Rattle.rules.specs.Reach.{In}
 use Rattle.laws.specs.RowSteps.{unsized_leaf, unsized_step, look_step, mut_step}
 use Rattle.laws.proofs.Base.Tests.{implied, all_pass}
 use Rattle.laws.proofs.Base.Members.{in_head, in_tail}

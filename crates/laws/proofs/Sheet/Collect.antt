@@ -15,7 +15,7 @@ use Rattle.rules.specs.Count.{count}
 use Rattle.rules.specs.View.{rows, items, shown}
 use Rattle.rules.specs.Collect.{visit, shown_by, collected_to}
 use Rattle.rules.specs.Types.{types_of}
-use Rattle.laws.specs.Reach.{In, Reaches, here, on, Reached}
+use Rattle.rules.specs.Reach.{In, Reaches, here, on, Reached}
 use Rattle.laws.specs.Skip.{skip_visit, skip_to}
 use Rattle.laws.proofs.Base.Counts.{Eq?, same, other, eq?, count-get}
 use Rattle.laws.proofs.Base.Sums.{once-few}

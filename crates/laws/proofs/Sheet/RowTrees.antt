@@ -17,7 +17,7 @@ use Rattle.rules.specs.Diagnostics.{bit}
 use Rattle.rules.specs.Format.{pair_at, offset, Accepted}
 use Rattle.rules.specs.View.{rows, kind, row_name, row_flags, inner, fn_return, fn_args, fn_arg_count, shown, or_nothing, entry, entries}
 use Rattle.laws.specs.Kinds.{leaf}
-use Rattle.laws.specs.Reach.{In}
+use Rattle.rules.specs.Reach.{In}
 use Rattle.laws.specs.RowTrees.{Tree, node, trees_of, row_bytes, numbers, tree, tree_of}
 use Rattle.laws.proofs.Base.Tests.{implied, both-are, all_pass}
 use Rattle.laws.proofs.Base.Lists.{over-length, over-get}

@@ -12,4 +12,4 @@ collect_names-requires c = named_start c.requires
 pub returns : goal.returns
 returns c =
     whole c.requires c.clear.ensures c.visit_items-count.ensures c.visit_items-count.auto.scratch c.collect_names.ensures
-    c.required_trivial_reasons.ensures
+    c.required_trivial_reasons.ensures c.required_unpin_reasons-unpin.ensures

@@ -7,7 +7,7 @@ mod time;
 
 use compare::generated::{count, damage};
 use oracle::generate::{PROFILES, Rng};
-use oracle::judge::{Answer, Outcome, SETS, judge, with_texts};
+use oracle::judge::{Answer, Outcome, Reason, SETS, judge, with_texts};
 use oracle::print;
 use std::fmt::Write;
 use std::fs;
@@ -28,6 +28,13 @@ fn listed(numbers: impl IntoIterator<Item = usize>) -> String {
     numbers.into_iter().map(|number| number.to_string()).collect::<Vec<_>>().join(",")
 }
 
+fn unpin(reason: &Reason) -> String {
+    match reason {
+        Reason::Row(row) => format!("{{\"row\":{row}}}"),
+        Reason::Item(item) => format!("{{\"item\":{item}}}"),
+    }
+}
+
 /// The line of an accepted sheet, without its file.
 fn accepted(sheet: &[u8], answer: &Answer) -> String {
     let mut line = format!("\"accepted\":true,\"total\":{},\"sets\":{{", answer.records.len());
@@ -35,9 +42,12 @@ fn accepted(sheet: &[u8], answer: &Answer) -> String {
     line += &sets.map(|(name, members)| format!("\"{name}\":[{}]", listed(members))).collect::<Vec<_>>().join(",");
     let reasons = answer.reasons.iter().enumerate().filter(|(_, count)| **count > 0);
     let reasons = reasons.map(|(name, count)| format!("\"{name}\":{count}")).collect::<Vec<_>>().join(",");
+    let unpin = answer.unpin.iter().enumerate().filter_map(|(name, reason)| Some(format!("\"{name}\":{}", unpin(reason.as_ref()?))));
+    let unpin = unpin.collect::<Vec<_>>().join(",");
     let tiers = answer.order.iter().map(|&item| usize::from(answer.tiers[usize::from(item)]));
     let order = answer.order.iter().map(|&item| usize::from(item));
-    write!(line, "}},\"reasons\":{{{reasons}}},\"order\":[{}],\"tiers\":[{}],\"records\":[", listed(order), listed(tiers)).unwrap();
+    write!(line, "}},\"reasons\":{{{reasons}}},\"unpin\":{{{unpin}}},").unwrap();
+    write!(line, "\"order\":[{}],\"tiers\":[{}],\"records\":[", listed(order), listed(tiers)).unwrap();
     for (number, (record, text)) in with_texts(sheet).iter().enumerate() {
         let letter = char::from(record.letter);
         let second = if "RIO".contains(letter) { String::new() } else { format!(",{}", record.second) };

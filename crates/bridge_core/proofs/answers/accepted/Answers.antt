@@ -4,7 +4,7 @@ use Rattle.bridge_core.proofs.answers.accepted.Goals as goal
 
 pub returns : goal.returns
 returns c =
-    accepted-is _ _ _ _ _
+    accepted-is _ _ _ _ _ _
     (record { set = c.set_of-shared.ensures; count = c.size.ensures })
     (record { set = c.set_of-enums.ensures; count = c.size-2.ensures })
     (record { set = c.set_of-cxx.ensures; count = c.size-3.ensures })

@@ -7,7 +7,7 @@ use mathlib.Core.List.{List, [], ◌∷◌, foldl}
 use native.Mathlib.Omega.{arith}
 use Rattle.rules.specs.View.{rows, shown}
 use Rattle.rules.specs.Collect.{enter, visit}
-use Rattle.laws.specs.Reach.{In, Reaches, here, on}
+use Rattle.rules.specs.Reach.{In, Reaches, here, on}
 use Rattle.laws.proofs.Base.Members.{in_head, in_tail, in-cons}
 use Rattle.laws.proofs.Sheet.Collect.Skip.{enter-cases, visit-grows, fold-grows}
 

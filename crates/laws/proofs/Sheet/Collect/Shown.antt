@@ -16,7 +16,7 @@ use Rattle.rules.specs.View.{arg, return_place, return, impl_row}
 use Rattle.rules.specs.Collect.{shown_by}
 use Rattle.laws.specs.Kinds.{leaf}
 use Rattle.laws.specs.Kinds.{RowOrNone}
-use Rattle.laws.specs.Reach.{In}
+use Rattle.rules.specs.Reach.{In}
 use Rattle.laws.proofs.Base.Tests.{never, both, all_pass}
 use Rattle.laws.proofs.Base.Members.{in-none, in_one, in-cases, in-over}
 use Rattle.laws.proofs.Sheet.Accepted.Rows.{RowOf, has_inner, row_of}

@@ -11,7 +11,7 @@ use Rattle.rules.specs.Base.{if'◌then◌else◌}
 use Rattle.rules.specs.Count.{count}
 use Rattle.rules.specs.View.{rows, shown}
 use Rattle.rules.specs.Collect.{enter, visit}
-use Rattle.laws.specs.Reach.{In}
+use Rattle.rules.specs.Reach.{In}
 use Rattle.laws.specs.Skip.{seen, skip_visit}
 use Rattle.laws.proofs.Base.Counts.{Eq?, same, other, eq?, count-snoc-same, count-snoc-other}
 use Rattle.laws.proofs.Base.Members.{in-none, in_head, in_tail, in-cons, in_one, in_left, in_right, in-cases, Seen?, old, new, seen?}

@@ -1,4 +1,4 @@
--- `layout::parts::put_answer` stores the answer's three parts one after another.
+-- `layout::parts::put_answer` stores the answer's four parts one after another.
 -- Assumes nothing.
 use Rattle.layout.specs.Layout.{answer_bytes}
 use Rattle.errors.proofs.Stores.{also}
@@ -6,4 +6,4 @@ use Rattle.layout.proofs.parts.put_answer.Goals as goal
 
 pub returns : goal.returns
 unfolding answer_bytes
-returns c = also (also c.put_header.ensures c.put_names.ensures) c.put_structs.ensures
+returns c = also (also (also c.put_header.ensures c.put_names.ensures) c.put_structs.ensures) c.put_unpin.ensures

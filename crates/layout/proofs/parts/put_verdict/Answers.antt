@@ -1,4 +1,4 @@
--- `layout::parts::put_verdict` stores number, zeros and position one after another.
+-- `layout::parts::put_verdict` stores number, version, place of the records and position, one after another.
 -- Assumes nothing.
 use Rattle.errors.proofs.Stores.{meant, also}
 use Rattle.layout.specs.Layout.{verdict_bytes}

@@ -1,10 +1,11 @@
 -- `types::reasons::count_name` meets its contract: none counts nothing, and a name has one reason more.
 -- Assumes nothing.
-use Rattle.types.proofs.Counting.{tally-none, counted-once, name-counted}
+use Rattle.types.proofs.Counting.{counted-once, name-counted}
+use Rattle.types.proofs.Folding.{fold-none}
 use Rattle.types.proofs.reasons.count_name.Goals as goal
 
 pub returns-in_default : goal.returns-in_default
-returns-in_default c = rw c.in_default.is tally-none
+returns-in_default c = rw c.in_default.is fold-none
 
 pub returns : goal.returns
 returns c =

@@ -1,4 +1,0 @@
-pub mod Unpin
-pub mod UnpinRule
-pub mod Folded
-pub mod Found
