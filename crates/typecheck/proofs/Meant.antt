@@ -1,16 +1,14 @@
 -- What the code says of fields, arguments and returns by the table of faults is what is meant, where the table is right.
 -- Assumes nothing.
-use Prim.Native.Nat.{ℕ, zero, suc, ◌<◌}
+use Prim.Native.Nat.{ℕ, ◌<◌}
 use mathlib.Core.Path.{◌≡◌, refl, sym, ap, ◌∙◌}
 use mathlib.Core.List.{List}
 use mathlib.Core.Logic.{inl, inr}
 use mathlib.Core.Bool.{Bool, true, false, not}
-use native.Mathlib.Omega.{arith}
 use borrow.Author.Tests.{eq-eqb}
 use Rattle.std.specs.Prelude.{Option, None}
 use Rattle.rules.specs.Numbers.{RustFunction, Ptr, no_row}
 use Rattle.rules.specs.declared.Place.TheVariants.{F, A, O}
-use Rattle.rules.specs.declared.Diagnostic.{Diagnostic}
 use Rattle.rules.specs.Base.{if'◌then◌else◌, over}
 use Rattle.rules.specs.Diagnostics.{say, tell, when}
 use Rattle.rules.specs.View.{rows, is, item_is, field_count, field, function_unsafe, return, has_return, arg_count, arg}

@@ -1,7 +1,7 @@
 -- Reasons are counted one list after another, and no count changes what the table says of extern C++ types (`extern-same`); a list of reasons by the tests
 -- that the code makes; and where a sheet's reasons are few enough, the counts that stop are the rules' own (`tally-counts`).
 -- Assumes nothing.
-use Prim.Native.Nat.{ℕ, zero, suc, ◌+◌, ◌*◌, ◌≤◌, ◌<◌, min}
+use Prim.Native.Nat.{ℕ, ◌+◌, ◌*◌, ◌≤◌, ◌<◌, min}
 use mathlib.Core.Path.{◌≡◌, refl, sym, ap, ap₂, ◌∙◌}
 use mathlib.Core.Logic.{◌≢◌}
 use mathlib.Core.Bool.{Bool, true, false, not, ◌||◌}

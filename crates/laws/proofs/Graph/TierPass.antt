@@ -66,16 +66,6 @@ unfolding tiers_to
 length-tiers G o zero t = refl
 length-tiers G o (suc p) t = length-set (tiers_to G o p t) (get_or o p 0) (tier_from G (tiers_to G o p t) (get_or o p 0)) ∙ length-tiers G o p t
 
--- the order may be the front of a longer list
-pub tiers-front : (G : Graph) (o l : List ℕ) (p : ℕ) (t : List ℕ) → ((q : ℕ) → q < p → get_or o q 0 ≡ get_or l q 0) → tiers_to G o p t ≡ tiers_to G l p t
-unfolding tiers_to
-tiers-front G o l zero t h = refl
-tiers-front G o l (suc p) t h = rw (h p (omega arith), tiers-front G o l p t (λ q m. h q (omega arith)))
-
-pub pass-front : (G : Graph) (n : ℕ) (o l : List ℕ) (p : ℕ) → ((q : ℕ) → q < p → get_or o q 0 ≡ get_or l q 0) → pass_of G n o p ≡ pass_of G n l p
-unfolding pass_of
-pass-front G n o l p h = tiers-front G o l p (start_to G n (replicate n 0)) h
-
 module _ (G : Graph) (n : ℕ) (good : Good G n) where
   record Begun (o : List ℕ) (p : ℕ) (t : List ℕ) : Type 0 where
     size : length t ≡ n

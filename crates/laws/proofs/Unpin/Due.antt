@@ -1,13 +1,8 @@
 -- The rule of the reasons to be Unpin, of each call that is answered accepted: its answer's reasons are those of the sheet's own types.
 -- Assumes nothing.
-use mathlib.Core.Path.{◌≡◌, ap, ◌∙◌}
-use mathlib.Core.List.{List}
-use Prim.Native.Nat.{ℕ}
+use mathlib.Core.Path.{◌≡◌, ap}
 use lib.ListN.{length}
-use Rattle.std.specs.Prelude.{Ok, Option}
 use Rattle.rules.specs.declared.Answer.{Answer}
-use Rattle.rules.specs.declared.Diagnostic.{Diagnostic}
-use Rattle.rules.specs.declared.UnpinReason.{UnpinReason}
 use Rattle.rules.specs.Types.{types_of}
 use Rattle.rules.specs.Unpin.{unpin_of}
 use Rattle.rules.specs.Answer.{accepted, call}

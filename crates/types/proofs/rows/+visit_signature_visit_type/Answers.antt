@@ -5,7 +5,6 @@ use mathlib.Core.Bool.{true}
 use mathlib.Core.List.{[], ◌∷◌}
 use native.Mathlib.Omega.{arith}
 use borrow.Author.Tests.{eqb-true, eqb-false}
-use Rattle.std.proofs.Common.{◌+◌}
 use Rattle.rules.specs.View.{is, kind, or_nothing, fn_return}
 use Rattle.laws.proofs.Sheet.Accepted.Rows.{row_of}
 use Rattle.laws.specs.Kinds.{leaf}
