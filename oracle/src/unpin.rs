@@ -2,7 +2,8 @@
 //! that an alias bears, and of no others, so it is worked out here for all,
 //! one name at a time, over row and item numbers.
 
-use crate::judge::Reason;
+use crate::judge::{Answer, Reason};
+use crate::print;
 use crate::sheet::{Form, Item, Row, Sheet};
 
 /// Flags of a row or a receiver: mutable, and not pinned.
@@ -65,6 +66,13 @@ fn is_method(item: &Item, of: u16) -> bool {
         },
         _ => false,
     }
+}
+
+/// Of an answer's reasons those that the Rust has too: of names that an alias
+/// bears.
+pub fn of_aliases(answer: &Answer) -> [Option<Reason>; 256] {
+    let aliases = print::members(&answer.sets[4]);
+    std::array::from_fn(|name| answer.unpin[name].filter(|_| aliases.contains(&name)))
 }
 
 /// What a reason may be by: in the order in which they stand.

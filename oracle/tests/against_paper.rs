@@ -53,16 +53,11 @@ struct Asked {
 /// Of a name that an alias bears the Rust says what is said of every C++
 /// name, and of other names nothing.
 fn required_unpin(sheet: &Sheet, answer: &Answer, asked: &mut Asked, what: &str) {
+    assert_eq!(answer.required_unpin, unpin::of_aliases(answer), "{what}");
     let (mut alias, mut cxx_type) = ([false; 3], [false; 3]);
-    for name in 0..256 {
-        let is_alias =
-            |item: &Item| matches!(item, Item::TypeAlias { head } if head.name as usize == name);
-        let is_alias = sheet.items.iter().any(is_alias);
-        let reason = answer.unpin[name];
-        let expected = if is_alias { reason } else { None };
-        assert_eq!(answer.required_unpin[name], expected, "{what} name {name}");
-        if let Some(reason) = reason {
-            let kinds = if is_alias { &mut alias } else { &mut cxx_type };
+    for (reason, rust) in answer.unpin.iter().zip(answer.required_unpin) {
+        if let Some(reason) = *reason {
+            let kinds = if rust.is_some() { &mut alias } else { &mut cxx_type };
             kinds[unpin::kind(sheet, reason)] = true;
         }
     }

@@ -12,8 +12,8 @@ fn main() {
     let (first, count): (usize, usize) = (first.parse().unwrap(), count.parse().unwrap());
     let small = stored::sheets().into_iter().enumerate();
     let small: Vec<_> = small.filter(|(_, sheet)| sheet.len() <= equations::MOST_BYTES).skip(first).collect();
-    let step = (small.len() / count).max(1);
-    let chosen: Vec<_> = small.into_iter().step_by(step).take(count).collect();
+    let count = count.min(small.len());
+    let chosen: Vec<_> = (0..count).map(|index| small[index * small.len() / count].clone()).collect();
     let mut root = String::new();
     for (number, sheets) in chosen.chunks(40).enumerate() {
         root += &format!("pub mod Batch{number}\n");

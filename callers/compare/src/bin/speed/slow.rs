@@ -22,9 +22,9 @@ pub fn measured(bench: &mut Bench) -> Result<Vec<Slow>, String> {
 }
 
 pub fn sheets() -> Sheets {
-    let parts =
-        [neighbours(), knot(), chains(), too_deep(), improper(), zigzag(), deep(), functions(), signatures(), impls(), enums(), longest()];
-    parts.into_iter().flatten().collect()
+    let structs = [neighbours(), knot(), chains(), too_deep(), improper(), zigzag(), deep()];
+    let others = [functions(), handles(), signatures(), impls(), enums(), longest()];
+    structs.into_iter().chain(others).flatten().collect()
 }
 
 /// Whether the last item has its place; it is taken back if not.
@@ -173,6 +173,25 @@ fn functions() -> Sheets {
     let sheets: [(_, u16, &[u16]); 2] =
         [("255 functions of 16 arguments", 0, &[0]), ("255 methods, lifetimes, &mut return", 2, &[2, 30, 0])];
     sheets.map(sheet).into()
+}
+
+/// Aliases with mutable slices and references, which are the arguments of methods whose receivers are mutable: all of them are reasons to be Unpin.
+fn handles() -> Sheets {
+    let sheet = |(about, aliases): (_, u16)| {
+        let mut draft = Draft::new();
+        let mut rows = Vec::new();
+        for name in 24..24 + aliases {
+            let plain = draft.name(name);
+            rows.extend([draft.row(&[10, 1, plain]), draft.row(&[7, 1, plain])]);
+            draft.item(&[&[7, name, 0, 0]]);
+        }
+        for i in aliases..255 {
+            let args: Vec<u16> = (0..16).map(|j| rows[usize::from(i * 16 + j) % rows.len()]).collect();
+            draft.item(&[&[5, i, 0, 0, 2, 24 + i % aliases, 1, 65_535, 16], &args]);
+        }
+        (about, draft.bytes())
+    };
+    [("226 aliases, slices and references, 29 methods", 226), ("28 aliases, slices and references, 227 methods", 28)].map(sheet).into()
 }
 
 fn signatures() -> Sheets {
