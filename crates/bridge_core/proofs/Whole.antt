@@ -47,7 +47,7 @@ behind = scratch_size - marks_end
 
 module _ {s b b' names : List ℕ} {cx₀ cx₁ : Errors} {k : Gathered} (c : Collects s b b' names cx₀ cx₁ k) where
   -- what the checks are given
-  pub given : Accepted s → Checkable s names b' k.rows
+  pub given : Accepted s → Checkable s names b' k.count
   given acc =
       record { accepted = acc; names_held = c.known; count = c.count; row = λ i l. c.pairs i (let e = c.count in omega arith) }
 

@@ -86,10 +86,10 @@ nothing h = record { bytes = λ g. absurd (omega arith); untouched = λ _. refl 
 
 -- ## The collected rows
 
-pub collected : {s sc sc' w : List ℕ} {cx cx' : Errors} {r : Gathered} → Collects s sc sc' w cx cx' r → CollectedRows s r.rows sc'
+pub collected : {s sc sc' w : List ℕ} {cx cx' : Errors} {r : Gathered} → Collects s sc sc' w cx cx' r → CollectedRows s r.count sc'
 collected c = record { count = c.count; row = λ k h. c.pairs k (omega (arith, c.count)) }
 
-pub room : {s sc sc' w : List ℕ} {cx cx' : Errors} {r : Gathered} → Runnable s sc → Collects s sc sc' w cx cx' r → 2 * r.rows ≤ length sc'
+pub room : {s sc sc' w : List ℕ} {cx cx' : Errors} {r : Gathered} → Runnable s sc → Collects s sc sc' w cx cx' r → 2 * r.count ≤ length sc'
 room {s} r c = omega (arith, c.count, c.same, r.long, all-few s r.accepted)
 
 pub no_rows : {s scratch : List ℕ} {room : ℕ} {r : Refusal} → read_with room s ≡ Err r → RowsOf s room 0 scratch

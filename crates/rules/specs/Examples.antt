@@ -240,6 +240,61 @@ cases =
         report = [];
       };
     }
+    -- a slice stands; two names; a reference inside an Fn that is a field; all before what declares the names
+    ∷ record {
+      sheet = 5 ∷ 4 ∷ 22 ∷ 26 ∷ 32 ∷ 36 ∷ 42 ∷ 52 ∷ 68 ∷ 80 ∷ 88 ∷ 0 ∷ 27 ∷ 10 ∷ 1 ∷ 0 ∷ 0 ∷ 28 ∷ 7 ∷ 1 ∷ 2 ∷ 12 ∷ 0 ∷ 65535 ∷ 1 ∷ 3 ∷ 6 ∷ 30 ∷ 0 ∷ 0 ∷ 0
+          ∷ 65535 ∷ 1 ∷ 1 ∷ 1 ∷ 24 ∷ 0 ∷ 0 ∷ 1 ∷ 4 ∷ 7 ∷ 27 ∷ 0 ∷ 0 ∷ 7 ∷ 28 ∷ 0 ∷ 0 ∷ [];
+      expected = record {
+        name_sets = (24 ∷ []) ∷ [] ∷ (27 ∷ 28 ∷ []) ∷ [] ∷ (27 ∷ 28 ∷ []) ∷ [] ∷ (27 ∷ []) ∷ (24 ∷ []) ∷ [];
+        reasons = (27, 1) ∷ [];
+        unpin = (27, Row 1) ∷ (28, Row 3) ∷ [];
+        order = (1 ∷ []);
+        tiers = (0 ∷ 0 ∷ []);
+        report = say 31 (F 1 0);
+      };
+    }
+    -- slices and references of anything but the plain name, a pinned one, a pinned one that is not mutable; and a slice and a reference that no item reaches: none
+    ∷ record {
+      sheet = 12 ∷ 2 ∷ 32 ∷ 36 ∷ 42 ∷ 48 ∷ 52 ∷ 58 ∷ 64 ∷ 70 ∷ 76 ∷ 82 ∷ 88 ∷ 94 ∷ 100 ∷ 108 ∷ 0 ∷ 27 ∷ 11 ∷ 27 ∷ 0 ∷ 10 ∷ 1 ∷ 1 ∷ 1 ∷ 0 ∷ 7 ∷ 1 ∷ 3 ∷ 7
+          ∷ 0 ∷ 0 ∷ 7 ∷ 1 ∷ 5 ∷ 8 ∷ 1 ∷ 0 ∷ 7 ∷ 3 ∷ 0 ∷ 7 ∷ 2 ∷ 0 ∷ 10 ∷ 1 ∷ 0 ∷ 7 ∷ 1 ∷ 0 ∷ 7 ∷ 27 ∷ 0 ∷ 0 ∷ 5 ∷ 30 ∷ 0 ∷ 0 ∷ 0 ∷ 65535 ∷ 6 ∷ 2 ∷ 4 ∷ 6
+          ∷ 7 ∷ 8 ∷ 9 ∷ [];
+      expected = record {
+        name_sets = [] ∷ [] ∷ (27 ∷ []) ∷ [] ∷ (27 ∷ []) ∷ [] ∷ (27 ∷ []) ∷ [] ∷ [];
+        reasons = (27, 1) ∷ [];
+        unpin = [];
+        order = [];
+        tiers = [];
+        report = say 19 (R 6) ++ say 48 (A 1 3);
+      };
+    }
+    -- an enum's and alias's name, a RustType's, a name that nothing declares: none
+    ∷ record {
+      sheet = 10 ∷ 6 ∷ 36 ∷ 40 ∷ 46 ∷ 52 ∷ 56 ∷ 60 ∷ 66 ∷ 72 ∷ 76 ∷ 82 ∷ 88 ∷ 104 ∷ 112 ∷ 122 ∷ 148 ∷ 166 ∷ 0 ∷ 27 ∷ 7 ∷ 1 ∷ 0 ∷ 10 ∷ 1 ∷ 0 ∷ 0 ∷ 2 ∷ 0
+          ∷ 28 ∷ 7 ∷ 1 ∷ 4 ∷ 10 ∷ 1 ∷ 4 ∷ 0 ∷ 29 ∷ 7 ∷ 1 ∷ 7 ∷ 10 ∷ 1 ∷ 7 ∷ 2 ∷ 27 ∷ 0 ∷ 0 ∷ 3 ∷ 1 ∷ 1 ∷ 0 ∷ 7 ∷ 27 ∷ 0 ∷ 0 ∷ 4 ∷ 28 ∷ 0 ∷ 0 ∷ 0 ∷ 5 ∷ 30
+          ∷ 0 ∷ 0 ∷ 0 ∷ 65535 ∷ 6 ∷ 1 ∷ 2 ∷ 5 ∷ 6 ∷ 8 ∷ 9 ∷ 5 ∷ 31 ∷ 0 ∷ 0 ∷ 2 ∷ 27 ∷ 1 ∷ 65535 ∷ 0 ∷ 6 ∷ 32 ∷ 0 ∷ 0 ∷ 2 ∷ 28 ∷ 1 ∷ 65535 ∷ 0 ∷ [];
+      expected = record {
+        name_sets = [] ∷ (27 ∷ []) ∷ (27 ∷ []) ∷ (28 ∷ []) ∷ (27 ∷ []) ∷ [] ∷ [] ∷ [] ∷ [];
+        reasons = [];
+        unpin = [];
+        order = [];
+        tiers = [];
+        report = say 1 (I 1) ++ say 3 (R 7) ++ say 42 (I 4);
+      };
+    }
+    -- an atom, a name of RustType and alias, a reference that is a return; a struct whose bytes read like a method says nothing
+    ∷ record {
+      sheet = 7 ∷ 7 ∷ 32 ∷ 36 ∷ 42 ∷ 46 ∷ 52 ∷ 56 ∷ 62 ∷ 66 ∷ 80 ∷ 88 ∷ 98 ∷ 106 ∷ 120 ∷ 128 ∷ 0 ∷ 0 ∷ 10 ∷ 1 ∷ 0 ∷ 0 ∷ 27 ∷ 7 ∷ 1 ∷ 2 ∷ 0 ∷ 28 ∷ 7 ∷ 1 ∷ 4
+          ∷ 1 ∷ 5 ∷ 1 ∷ 24 ∷ 0 ∷ 0 ∷ 2 ∷ 0 ∷ 1 ∷ 7 ∷ 0 ∷ 0 ∷ 0 ∷ 4 ∷ 27 ∷ 0 ∷ 0 ∷ 0 ∷ 7 ∷ 27 ∷ 0 ∷ 0 ∷ 5 ∷ 30 ∷ 0 ∷ 0 ∷ 0 ∷ 3 ∷ 0 ∷ 7 ∷ 28 ∷ 0 ∷ 0 ∷ 8 ∷ 6
+          ∷ 0 ∷ 0 ∷ [];
+      expected = record {
+        name_sets = (24 ∷ []) ∷ [] ∷ (0 ∷ 27 ∷ 28 ∷ []) ∷ (27 ∷ []) ∷ (0 ∷ 27 ∷ 28 ∷ []) ∷ [] ∷ (0 ∷ []) ∷ (24 ∷ []) ∷ [];
+        reasons = (0, 2) ∷ [];
+        unpin = (0, Row 1) ∷ (27, Row 3) ∷ (28, Row 5) ∷ [];
+        order = (0 ∷ []);
+        tiers = (0 ∷ []);
+        report = say 1 (I 3) ++ say 5 (R 6) ++ say 56 (I 4);
+      };
+    }
     ∷ []
 
 -- what the call gives, over a scratch of 4,098 bytes and a list of eight blanks

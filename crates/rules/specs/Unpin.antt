@@ -77,6 +77,8 @@ reason_number (Some (Item i)) = item_reasons + i
 unfoldable pub reason_of : ℕ → Option UnpinReason
 reason_of x = if' eqb x 0 then None else if' ltb x item_reasons then Some (Row (x - 1)) else Some (Item (x % 256))
 
--- the number of each reason gives it back
+-- the number of each reason fits two bytes, and gives it back
 abbrev pub NumbersBack : List (Option UnpinReason) → Type 0
-NumbersBack reasons = (n : ℕ) → n < name_count → reason_of (reason_number (reason_for reasons n)) ≡ reason_for reasons n
+NumbersBack reasons =
+    (n : ℕ) → n < name_count
+    → (reason_number (reason_for reasons n) < 65536) × (reason_of (reason_number (reason_for reasons n)) ≡ reason_for reasons n)

@@ -1,5 +1,5 @@
 -- What is promised of the reasons to be Unpin, in the words of the sheet: a reason shown exists in it, and a name that is asked for and has none has no such
--- slice, receiver or reference. Nothing here is computed by a pass or a table.
+-- slice, receiver or reference. Nothing here is computed by a pass or a table, but for the order in which rows are collected.
 -- Assumes nothing: these are definitions.
 use Rattle.std.specs.Prelude.{ℕ, ◌≤◌, ◌<◌, ◌≡◌, ◌⊎◌, true, false, List, Option, Some, None, Ok}
 use Rattle.rules.specs.Numbers.{Ident, Ref, SliceRef, Struct, Enum, CxxType, TypeAlias, name_count}

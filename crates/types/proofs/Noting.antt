@@ -21,8 +21,7 @@ use Rattle.rules.specs.Types.{Types, is_cxx, is_extern}
 use Rattle.rules.specs.Unpin.{Find, over_extern, is_mut_slice, is_mut_ref, is_mut_method, find_row, find_item, find_items, last_of_all}
 use Rattle.laws.proofs.Unpin.LastFinds.{all-length, all_set, all-out, all_none}
 use Rattle.laws.proofs.Base.Tests.{and-false}
-use Rattle.names.specs.Known.{tabled}
-use Rattle.types.specs.Found.{row_found, rows_found, items_found, all_found, stood, Noted}
+use Rattle.types.specs.Found.{row_found, rows_found, all_found, stood, Noted}
 use Rattle.laws.proofs.Base.Lists.{over_nothing}
 use Rattle.types.proofs.Folding.{fold-none}
 
@@ -41,12 +40,12 @@ module _ (s : List ℕ) (test : ℕ → Bool) (p : ℕ) {r : ℕ} {yes : Bool} (
   unfolding find_row if'◌then◌else◌
   row-noted f {q} {n} is-inner is_name = rw (← is_row, sym is_test ∙ f, ← is-inner, ← is_name) (noted_one u (n, Row r))
 
-module _ (s w : List ℕ) (i : ℕ) {yes : Bool} (test : yes ≡ is_mut_method s (tabled s w) i) {u : List (Option UnpinReason)} where
-  pub item-not : yes ≡ false → Noted u (find_item s (tabled s w) i) u
+module _ (s : List ℕ) (t : Types) (i : ℕ) {yes : Bool} (test : yes ≡ is_mut_method s t i) {u : List (Option UnpinReason)} where
+  pub item-not : yes ≡ false → Noted u (find_item s t i) u
   unfolding find_item if'◌then◌else◌
   item-not f = rw (sym test ∙ f) fold-none
 
-  pub item-noted : yes ≡ true → {n : ℕ} → n ≡ self_type s i → Noted u (find_item s (tabled s w) i) (stood u (n, Item i))
+  pub item-noted : yes ≡ true → {n : ℕ} → n ≡ self_type s i → Noted u (find_item s t i) (stood u (n, Item i))
   unfolding find_item if'◌then◌else◌
   item-noted f {n} is_name = rw (sym test ∙ f, ← is_name) (noted_one u (n, Item i))
 
@@ -57,34 +56,34 @@ not-extern : (t : Types) (n : ℕ) → is_cxx t n ≡ false → is_extern t n �
 unfolding is_extern extern_in is_cxx
 not-extern t n e = rw e
 
-module _ (s w : List ℕ) (none : (n : ℕ) → is_cxx (tabled s w) n ≡ false) where
-  no_row : (k r : ℕ) → over_extern s (tabled s w) k r ≡ false
+module _ (s : List ℕ) (t : Types) (none : (n : ℕ) → is_cxx t n ≡ false) where
+  no_row : (k r : ℕ) → over_extern s t k r ≡ false
   unfolding over_extern
-  no_row k r = rw (not-extern (tabled s w) (row_name s (inner s r)) (none (row_name s (inner s r))), and-false)
+  no_row k r = rw (not-extern t (row_name s (inner s r)) (none (row_name s (inner s r))), and-false)
 
-  no_slice : (r : ℕ) → is_mut_slice s (tabled s w) r ≡ false
+  no_slice : (r : ℕ) → is_mut_slice s t r ≡ false
   unfolding is_mut_slice
   no_slice r = rw (no_row SliceRef r)
 
-  no_ref : (r : ℕ) → is_mut_ref s (tabled s w) r ≡ false
+  no_ref : (r : ℕ) → is_mut_ref s t r ≡ false
   unfolding is_mut_ref
   no_ref r = rw (no_row Ref r)
 
-  no-method : (i : ℕ) → is_mut_method s (tabled s w) i ≡ false
+  no-method : (i : ℕ) → is_mut_method s t i ≡ false
   unfolding is_mut_method
-  no-method i = rw (not-extern (tabled s w) (self_type s i) (none (self_type s i)), and-false)
+  no-method i = rw (not-extern t (self_type s i) (none (self_type s i)), and-false)
 
   rows-nothing : (test : ℕ → Bool) → ((r : ℕ) → test r ≡ false) → (scratch : List ℕ) (n : ℕ) → rows_found s test scratch n ≡ []
   unfolding find_row if'◌then◌else◌
   rows-nothing test fails scratch n = over_nothing n (row_found s test scratch) (λ k. rw (fails (pair_at scratch (2 * k))))
 
-  items-nothing : items_found s w ≡ []
+  items-nothing : find_items s t ≡ []
   unfolding find_items find_item if'◌then◌else◌
-  items-nothing = over_nothing (items s) (find_item s (tabled s w)) (λ i. rw (no-method i))
+  items-nothing = over_nothing (items s) (find_item s t) (λ i. rw (no-method i))
 
-  pub none_found : (scratch : List ℕ) (n : ℕ) → replicate name_count None ≡ last_of_all (all_found s w scratch n)
+  pub none_found : (scratch : List ℕ) (n : ℕ) → replicate name_count None ≡ last_of_all (all_found s t scratch n)
   none_found scratch n =
-      rw (rows-nothing (is_mut_slice s (tabled s w)) no_slice scratch n, items-nothing, rows-nothing (is_mut_ref s (tabled s w)) no_ref scratch n)
+      rw (rows-nothing (is_mut_slice s t) no_slice scratch n, items-nothing, rows-nothing (is_mut_ref s t) no_ref scratch n)
       (sym all_none)
 
 -- ## All of them

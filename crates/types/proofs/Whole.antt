@@ -18,7 +18,7 @@ use Rattle.rules.specs.View.{items}
 use Rattle.rules.specs.Collect.{names_to, last_to}
 use Rattle.rules.specs.Trivial.{extern_in, reasons_of_item, reasons_of_row, reason_names, required_of}
 use Rattle.rules.specs.Types.{Types, types_of, is_extern}
-use Rattle.rules.specs.Unpin.{Find, is_mut_slice, is_mut_ref, find_row, find_items, find_rows, finds, last_of_all, unpin_of}
+use Rattle.rules.specs.Unpin.{is_mut_slice, is_mut_ref, find_row, find_rows, finds, last_of_all, unpin_of}
 use Rattle.rules.specs.Answer.{cleared}
 use Rattle.laws.proofs.Sheet.Collect.{all-few}
 use Rattle.laws.proofs.Report.Bounds.Reasons.{names-few, reasons-length, reasons-are}
@@ -144,11 +144,6 @@ module _ {s b d : List ℕ} {m : ℕ} (acc : Accepted s) (grown : Grown b d m (t
 
 -- ## The reasons to be Unpin
 
--- by the types of a sheet, over the m rows that a scratch holds
-abbrev found-by : (s d : List ℕ) (m : ℕ) → Types → List Find
-found-by s d m t =
-    over m (λ k. find_row s (is_mut_slice s t) (pair_at d (2 * k))) ++ find_items s t ++ over m (λ k. find_row s (is_mut_ref s t) (pair_at d (2 * k)))
-
 module _ (s : List ℕ) {b d : List ℕ} {m : ℕ} (grown : Grown b d m (types_of s).all) where
   -- the rows that the scratch holds are the collected ones
   rows-by : (p : ℕ → Bool) → over m (λ k. find_row s p (pair_at d (2 * k))) ≡ find_rows s (types_of s) p
@@ -159,26 +154,26 @@ module _ (s : List ℕ) {b d : List ℕ} {m : ℕ} (grown : Grown b d m (types_o
       (over-same m (λ k. find_row s p (pair_at d (2 * k))) (λ k. find_row s p (get_or (types_of s).all k 0))
       (λ k l. ap (find_row s p) (holds_row grown.held k l)))
 
-  unpin-is : (u : List ℕ) → tabled s u ≡ types_of s → last_of_all (all_found s u d m) ≡ unpin_of s (types_of s)
+  unpin-is : {t : Types} → t ≡ types_of s → last_of_all (all_found s t d m) ≡ unpin_of s (types_of s)
   unfolding unpin_of finds if'◌then◌else◌
-  unpin-is u own =
-      ap (λ (t : Types). last_of_all (found-by s d m t)) own
+  unpin-is own =
+      ap (λ (t : Types). last_of_all (all_found s t d m)) own
       ∙ ap last_of_all (rw (rows-by (is_mut_slice s (types_of s)), rows-by (is_mut_ref s (types_of s))))
 
 -- ## All together
 
-pub whole : {s b w e d : List ℕ} {cx cx' : Errors} {v u : List ℕ} {r : Gathered} → Collectable s b w → e ≡ cleared b → Grown e d r.rows (types_of s).all
+pub whole : {s b w e d : List ℕ} {cx cx' : Errors} {v u : List ℕ} {r : Gathered} → Collectable s b w → e ≡ cleared b → Grown e d r.count (types_of s).all
     → length d ≡ length e
     → Declared s v cx cx'
-    → Tallied v (of_all s v d r.rows) u
-    → r.unpin ≡ last_of_all (all_found s u d r.rows)
+    → Tallied v (of_all s v d r.count) u
+    → r.unpin ≡ last_of_all (all_found s (tabled s u) d r.count)
     → Collects s b d u cx cx' r
-whole {s} {b} {u = u} {r = r} h c g l n t o =
-    let few : r.rows ≡ length (types_of s).all = holds-length g.held in
+whole {s} {b} {r = r} h c g l n t o =
+    let few : r.count ≡ length (types_of s).all = holds-length g.held in
     record {
       known = known h.accepted g n.names t;
       columns = column-of h.accepted g n.names t;
-      unpin = o ∙ unpin-is s g u (known h.accepted g n.names t);
+      unpin = o ∙ unpin-is s g (known h.accepted g n.names t);
       count = few;
       pairs = λ k p. holds_row g.held k (omega arith);
       marks = g.held.marks;

@@ -1,14 +1,14 @@
--- Reasons to be Unpin as the code finds them: by what a table has of the names, over the rows that a scratch holds; each takes the place of the one before.
+-- Reasons to be Unpin as the code finds them: over the rows that a scratch holds; each takes the place of the one before.
 -- Assumes nothing: these are definitions.
 use Rattle.std.specs.Prelude.{ℕ, ◌*◌, ◌<◌, ◌≡◌, Bool, List, ◌++◌, set, Option, Some}
 use Rattle.rules.specs.declared.UnpinReason.{UnpinReason}
 use Rattle.rules.specs.Base.{over}
 use Rattle.rules.specs.Format.{pair_at}
+use Rattle.rules.specs.Types.{Types}
 use Rattle.rules.specs.Unpin.{Find, is_mut_slice, is_mut_ref, find_row, find_items}
-use Rattle.names.specs.Known.{tabled}
 use Rattle.types.specs.Folded.{Folded}
 
--- what a call of a row may answer is what a test says of it
+-- for every row, what the call may answer is the test's answer
 abbrev pub Tells : ((r : ℕ) → Bool → Type 0) → (test : ℕ → Bool) → Type 0
 Tells Answers test = (r : ℕ) (b : Bool) → r < 65536 → Answers r b → b ≡ test r
 
@@ -19,13 +19,9 @@ row_found s test scratch k = find_row s test (pair_at scratch (2 * k))
 abbrev pub rows_found : (s : List ℕ) (test : ℕ → Bool) (scratch : List ℕ) (n : ℕ) → List Find
 rows_found s test scratch n = over n (row_found s test scratch)
 
-module _ (s w : List ℕ) where
-  abbrev pub items_found : List Find
-  items_found = find_items s (tabled s w)
-
-  -- slices, methods, references
-  abbrev pub all_found : (scratch : List ℕ) (n : ℕ) → List Find
-  all_found scratch n = rows_found s (is_mut_slice s (tabled s w)) scratch n ++ items_found ++ rows_found s (is_mut_ref s (tabled s w)) scratch n
+-- slices, methods, references, by what is known of the names
+abbrev pub all_found : (s : List ℕ) (t : Types) (scratch : List ℕ) (n : ℕ) → List Find
+all_found s t scratch n = rows_found s (is_mut_slice s t) scratch n ++ find_items s t ++ rows_found s (is_mut_ref s t) scratch n
 
 -- the reasons with one more
 abbrev pub stood : List (Option UnpinReason) → Find → List (Option UnpinReason)

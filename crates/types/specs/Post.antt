@@ -28,7 +28,7 @@ pub record Collects (s scratch scratch' names' : List ℕ) (cx cx' : Errors) (r 
   -- every column but that of the reasons has the last item of each name that enters it, so the numbers of the items also where the rules ask for the set alone
   pub columns : (k : ℕ) → k ≢ required_trivial_set → k < column_count → LastColumn s (enters_column s k) (items s) names' k
   pub unpin : r.unpin ≡ unpin_of s (types_of s)
-  pub count : r.rows ≡ length (types_of s).all
+  pub count : r.count ≡ length (types_of s).all
   -- pair k of the scratch is row k of the collected ones, and the row is marked where it is one of them; the pairs of no row are left open
   pub pairs : (k : ℕ) → k < length (types_of s).all → pair_at scratch' (2 * k) ≡ get_or (types_of s).all k 0
   pub marks : (r : ℕ) → r < most_rows → marked scratch' r ≡ seen (types_of s).all r

@@ -3,8 +3,8 @@ ghost use Rattle.std.specs.Prelude.{◌≡◌, ℕ, Bool};
 ghost use Rattle.rules.specs.Format.{Accepted};
 ghost use Rattle.rules.specs.Kinds.{row_number};
 ghost use Rattle.names.specs.Known.{sheet, types};
-ghost use Rattle.rules.specs.Unpin.{over_extern, is_mut_slice, is_mut_ref, is_mut_method, last_of_all};
-ghost use Rattle.types.specs.Found.{Tells, rows_found, items_found, all_found, stood, Noted};
+ghost use Rattle.rules.specs.Unpin.{over_extern, is_mut_slice, is_mut_ref, is_mut_method, find_items, last_of_all};
+ghost use Rattle.types.specs.Found.{Tells, rows_found, all_found, stood, Noted};
 
 use names::known::{Known, NAMES};
 use row_tables::wants;
@@ -63,20 +63,20 @@ fn note(reasons: &mut [Option<UnpinReason>; name::COUNT], n: u16, why: UnpinReas
     }
 }
 
-// The collected rows that are a reason.
+// Notes the collected rows that are a reason.
 fn note_rows<F: Fn(u16) -> bool>(
     s: &[u8],
-    rows: &Collected<'_>,
+    collected: &Collected<'_>,
     is_reason: F,
     reasons: &mut [Option<UnpinReason>; name::COUNT],
 )
     requires { F.IsAlwaysCallable is_reason }
     ensures { (test : ℕ → Bool)
         → Tells (F.post is_reason) test
-        → Noted reasons.old (rows_found s.now test rows.now.scratch.now rows.now.count) reasons.new }
+        → Noted reasons.old (rows_found s.now test collected.now.scratch.now collected.now.count) reasons.new }
 {
-    for k in 0..rows.count {
-        let r = rows.row(k);
+    for k in 0..collected.count {
+        let r = collected.row(k);
         if is_reason(r) {
             let n = rows::row_name(s, rows::inner(s, r));
             note(reasons, n, UnpinReason::Row(r));
@@ -84,10 +84,10 @@ fn note_rows<F: Fn(u16) -> bool>(
     }
 }
 
-// The methods.
+// Notes the methods that are a reason.
 fn note_items(known: &Known<'_>, reasons: &mut [Option<UnpinReason>; name::COUNT])
     requires { Accepted (sheet known.now) }
-    ensures { Noted reasons.old (items_found (sheet known.now) known.now.names.now) reasons.new }
+    ensures { Noted reasons.old (find_items (sheet known.now) (types known.now)) reasons.new }
 {
     let count = items::items(known.s);
     for i in 0..count {
@@ -101,17 +101,17 @@ fn note_items(known: &Known<'_>, reasons: &mut [Option<UnpinReason>; name::COUNT
 // The reason that stood last for each name: slices first, then methods, then references. Without a name in cxx there are none.
 pub fn required_unpin_reasons(
     known: &Known<'_>,
-    rows: &Collected<'_>,
+    collected: &Collected<'_>,
 ) -> [Option<UnpinReason>; name::COUNT]
     requires { Accepted (sheet known.now) }
-    ensures { result ≡ last_of_all (all_found (sheet known.now) known.now.names.now rows.now.scratch.now rows.now.count) }
+    ensures { result ≡ last_of_all (all_found (sheet known.now) (types known.now) collected.now.scratch.now collected.now.count) }
 {
     let mut reasons = [None; name::COUNT];
     if wants::no_cxx(known) {
         return reasons;
     }
-    note_rows(known.s, rows, |r| is_mut_slice(known, r), &mut reasons);
+    note_rows(known.s, collected, |r| is_mut_slice(known, r), &mut reasons);
     note_items(known, &mut reasons);
-    note_rows(known.s, rows, |r| is_mut_ref(known, r), &mut reasons);
+    note_rows(known.s, collected, |r| is_mut_ref(known, r), &mut reasons);
     reasons
 }

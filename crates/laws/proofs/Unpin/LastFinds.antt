@@ -29,22 +29,22 @@ module _ (n : ℕ) where
   last-append u (f ∷ fs) gs = last-append (if' eqb f.0 n then Some f.1 else u) fs gs
 
   -- one more, of that name or of another
-  pub last-same : (m : ℕ) (u : UnpinReason) (v : Option UnpinReason) → m ≡ n → last_for n v ((m, u) ∷ []) ≡ Some u
+  last-same : (m : ℕ) (u : UnpinReason) (v : Option UnpinReason) → m ≡ n → last_for n v ((m, u) ∷ []) ≡ Some u
   unfolding last_for if'◌then◌else◌
   last-same m u v e = rw (eq-eqb m n e)
 
-  pub last-other : (m : ℕ) (u : UnpinReason) (v : Option UnpinReason) → m ≢ n → last_for n v ((m, u) ∷ []) ≡ v
+  last-other : (m : ℕ) (u : UnpinReason) (v : Option UnpinReason) → m ≢ n → last_for n v ((m, u) ∷ []) ≡ v
   unfolding last_for if'◌then◌else◌
   last-other m u v e = rw (ne_eqb m n e)
 
 -- ## A pass
 
 module _ (p : ℕ → Bool) (name : ℕ → ℕ) (val : ℕ → UnpinReason) where
-  abbrev pub find_of : Bool → ℕ → List Find
+  abbrev find_of : Bool → ℕ → List Find
   find_of b j = if' b then (name j, val j) ∷ [] else []
 
   -- the finds of the first k
-  abbrev pub finds_to : (k : ℕ) → List Find
+  abbrev finds_to : (k : ℕ) → List Find
   finds_to k = over k (λ j. find_of (p j) j)
 
   -- what the first k leave for a name that had `old`

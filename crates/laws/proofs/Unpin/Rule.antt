@@ -1,6 +1,6 @@
 -- The reasons to be Unpin are those that the words of the sheet say, of each accepted sheet (`unpin-rule`). Tests are words (`asked_is`, `over-of`, `is-over`).
 -- Each of the three passes leaves its last find, or what there was (`leaves`), and the three together leave what stands (`together`). The number of a reason
--- gives it back, since an accepted sheet has few rows and items (`unpin-back`).
+-- fits two bytes and gives it back, since an accepted sheet has few rows and items (`unpin-back`).
 -- Assumes nothing.
 use Prim.Native.Nat.{ℕ, ◌+◌, ◌≤◌, ◌<◌}
 use mathlib.Core.Path.{◌≡◌, refl, sym, ap, ◌∙◌, subst}
@@ -276,7 +276,7 @@ module _ (s : List ℕ) (acc : Accepted s) where
   row_small : {n k r : ℕ} → Over s n k r → r + 1 < item_reasons
   row_small {r = r} h = let l : r < rows s = reached-below r h.collected in omega (arith, (sheet-of s acc).few-rows)
 
-  stands-back : {n : ℕ} {u : Option UnpinReason} → Stands s n u → reason_of (reason_number u) ≡ u
+  stands-back : {n : ℕ} {u : Option UnpinReason} → Stands s n u → (reason_number u < 65536) × (reason_of (reason_number u) ≡ u)
   stands-back (by_ref {r = r} a m l) = row_back r (row_small m.reference)
   stands-back (by_method {i = i} a m l f) = item_back i (let h : i < items s = m.below in omega (arith, (sheet-of s acc).few-items))
   stands-back (by_slice {r = r} a m l f g) = row_back r (row_small m.slice)

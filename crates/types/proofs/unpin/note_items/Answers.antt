@@ -17,12 +17,12 @@ overflow_cast-i c = omega (arith, c.loop-i-test.true, c.items-count.ensures, few
 pub loop-i-preserved : goal.loop-i-preserved
 loop-i-preserved c =
     let s = c.args.known.now.s.now in
-    let w₀ = c.args.known.now.names.now in
+    let t = types c.args.known.now in
     let e = c.is_mut_method.ensures in
-    over-more (find_item s (types c.args.known.now)) c.loop-i.i c.loop-i.invariant
+    over-more (find_item s t) c.loop-i.i c.loop-i.invariant
     (elim c.if-is_mut_method.branch [
-      | then-is_mut_method w ↦ rw (w.reasons-is, w.note.ensures) (item-noted s w₀ c.loop-i.i e w.if-is_mut_method.true w.self_type-n.ensures)
-      | else-is_mut_method w ↦ rw w.reasons-is (item-not s w₀ c.loop-i.i e w.if-is_mut_method.false)
+      | then-is_mut_method w ↦ rw (w.reasons-is, w.note.ensures) (item-noted s t c.loop-i.i e w.if-is_mut_method.true w.self_type-n.ensures)
+      | else-is_mut_method w ↦ rw w.reasons-is (item-not s t c.loop-i.i e w.if-is_mut_method.false)
     ])
 
 pub returns : goal.returns

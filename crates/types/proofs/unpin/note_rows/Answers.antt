@@ -12,7 +12,7 @@ loop-k-preserved g c =
     λ test h.
     let s = c.args.s.now in
     let e = h c.row-r.result c.is_reason.result c.row-r.type_inv c.is_reason.ensures in
-    over-more (row_found s test c.args.rows.now.scratch.now) c.loop-k.k (c.loop-k.invariant test h)
+    over-more (row_found s test c.args.collected.now.scratch.now) c.loop-k.k (c.loop-k.invariant test h)
     (elim c.if-is_reason.branch [
       | then-is_reason w ↦
           rw (w.reasons-is, w.note.ensures) (row-noted s test _ c.row-r.ensures e w.if-is_reason.true w.inner.ensures w.row_name-n.ensures)

@@ -6,4 +6,4 @@ use Rattle.types.proofs.unpin.note_rows.Given as goal
 
 abbrev pub invariant-loop-k : goal.invariant-loop-k
 invariant-loop-k g l =
-    (test : ℕ → Bool) → Tells (goal.F-post g l.is_reason) test → Noted l.initial.reasons (rows_found l.s test l.rows.scratch.now l.k) l.reasons
+    (test : ℕ → Bool) → Tells (goal.F-post g l.is_reason) test → Noted l.initial.reasons (rows_found l.s test l.collected.scratch.now l.k) l.reasons

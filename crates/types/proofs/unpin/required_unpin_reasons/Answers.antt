@@ -10,8 +10,8 @@ use Rattle.types.proofs.unpin.required_unpin_reasons.Goals as goal
 pub returns-then-no_cxx : goal.returns-then-no_cxx
 returns-then-no_cxx c =
     let known = c.args.known.now in
-    let rows = c.args.rows.now in
-    none_found known.s.now known.names.now (c.no_cxx.ensures c.if-no_cxx.true) rows.scratch.now rows.count
+    let rows = c.args.collected.now in
+    none_found known.s.now (types known) (c.no_cxx.ensures c.if-no_cxx.true) rows.scratch.now rows.count
 
 pub returns : goal.returns
 returns c =
