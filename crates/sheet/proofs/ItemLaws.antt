@@ -1,4 +1,4 @@
--- What an item is, by its kind: the repr row of an enum, a receiver, and the kinds that are joined in one arm.
+-- What an item is, by its kind: the repr row of an enum, a receiver, a function from its receiver on, and the kinds that are joined in one arm.
 -- Assumes nothing.
 use Prim.Native.Nat.{ℕ, zero, suc, ◌+◌, ◌-◌, ◌*◌, ◌≤◌}
 use mathlib.Core.Path.{◌≡◌, refl, sym, ◌∙◌}
@@ -11,7 +11,9 @@ use borrow.Author.Tests.{eq-eqb, ne_eqb}
 use Rattle.rules.specs.declared.Refusal.{Refusal}
 use Rattle.rules.specs.declared.Fault.TheVariants.{Misplaced, BadValue, BadRow}
 use Rattle.std.specs.Prelude.{Ok, Err}
-use Rattle.rules.specs.Format.{Step, refusal, check, after, end, pair_at, offset, one, limited, repr, receivers, item_of, item_kinds, item, item_at}
+use Rattle.rules.specs.Numbers.{name_count, lifetime_name_count, most_lifetimes, most_args}
+use Rattle.rules.specs.Format.{Step, refusal, check, after, end, pair_at, offset, one, limited, list, or_none, repr, receiver, receivers, function}
+use Rattle.rules.specs.Format.{item_of, item_kinds, item, item_at}
 use Rattle.sheet.proofs.StepLaws.{stop, go}
 
 -- `one` by its two tests; a second test b && c
@@ -58,6 +60,13 @@ receiver-free s zero p h1 h2 = refl
 receiver-free s (suc zero) p h1 h2 = absurd (h1 refl)
 receiver-free s (suc (suc zero)) p h1 h2 = absurd (h2 refl)
 receiver-free s (suc (suc (suc k))) p h1 h2 = refl
+
+-- a function whose name, flags and lifetimes were not refused: what it is from its receiver on
+pub function-from-receiver : (s : List ℕ) (flags T at : ℕ) {x y z : Step} {p q r : ℕ} → x ≡ limited s BadValue name_count at → x ≡ Ok p
+    → y ≡ limited s BadValue flags p → y ≡ Ok q → z ≡ list s most_lifetimes BadValue lifetime_name_count q → z ≡ Ok r
+    → function s flags T at ≡ after (after (receiver s r) (or_none s T)) (list s most_args BadRow T)
+unfolding function
+function-from-receiver s flags T at ex x ey y ez z = rw (← ex, x, ← ey, y, ← ez, z) refl
 
 -- a number that is no kind's
 pub item-past : (s : List ℕ) (T k at : ℕ) → 9 ≤ k → ◌≡◌ {A = Step} (Ok at) (item_of s T k at)

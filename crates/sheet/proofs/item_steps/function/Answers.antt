@@ -3,6 +3,7 @@
 use Rattle.std.proofs.Common.{refl}
 use Rattle.std.proofs.lemmas.Result.{err_from_is_err_and}
 use Rattle.rules.specs.Format.{function}
+use Rattle.sheet.proofs.ItemLaws.{function-from-receiver}
 use Rattle.sheet.proofs.item_steps.function.Goals as goal
 
 pub returns-in_err-at : goal.returns-in_err-at
@@ -24,52 +25,18 @@ returns-in_err-at-3 c =
     rw (p.1, p.2, ← c.limited.ensures, c.in_ok-at.was, ← c.limited-2.ensures, c.in_ok-at-2.was, ← c.list.ensures, c.in_err-at-3.was) refl
 
 pub returns-in_err-at-4 : goal.returns-in_err-at-4
-unfolding function
 returns-in_err-at-4 c =
     let p = err_from_is_err_and c.from_residual-in_err-at-4.result c.from_residual-in_err-at-4.ensures.1 in
-    rw (
-      p.1,
-      p.2,
-      ← c.limited.ensures,
-      c.in_ok-at.was,
-      ← c.limited-2.ensures,
-      c.in_ok-at-2.was,
-      ← c.list.ensures,
-      c.in_ok-at-3.was,
-      ← c.receiver.ensures,
-      c.in_err-at-4.was,
-    ) refl
+    let q = function-from-receiver _ _ c.args.t _ c.limited.ensures c.in_ok-at.was c.limited-2.ensures c.in_ok-at-2.was c.list.ensures c.in_ok-at-3.was in
+    rw (p.1, p.2, q, ← c.receiver.ensures, c.in_err-at-4.was) refl
 
 pub returns-in_err-at-5 : goal.returns-in_err-at-5
-unfolding function
 returns-in_err-at-5 c =
     let p = err_from_is_err_and c.from_residual-in_err-at-5.result c.from_residual-in_err-at-5.ensures.1 in
-    rw (
-      p.1,
-      p.2,
-      ← c.limited.ensures,
-      c.in_ok-at.was,
-      ← c.limited-2.ensures,
-      c.in_ok-at-2.was,
-      ← c.list.ensures,
-      c.in_ok-at-3.was,
-      ← c.receiver.ensures,
-      c.in_ok-at-4.was,
-      ← c.or_none.ensures,
-      c.in_err-at-5.was,
-    ) refl
+    let q = function-from-receiver _ _ c.args.t _ c.limited.ensures c.in_ok-at.was c.limited-2.ensures c.in_ok-at-2.was c.list.ensures c.in_ok-at-3.was in
+    rw (p.1, p.2, q, ← c.receiver.ensures, c.in_ok-at-4.was, ← c.or_none.ensures, c.in_err-at-5.was) refl
 
 pub returns : goal.returns
-unfolding function
-returns c = rw (
-  ← c.limited.ensures,
-  c.in_ok-at.was,
-  ← c.limited-2.ensures,
-  c.in_ok-at-2.was,
-  ← c.list.ensures,
-  c.in_ok-at-3.was,
-  ← c.receiver.ensures,
-  c.in_ok-at-4.was,
-  ← c.or_none.ensures,
-  c.in_ok-at-5.was,
-) c.list-2.ensures
+returns c =
+    let q = function-from-receiver _ _ c.args.t _ c.limited.ensures c.in_ok-at.was c.limited-2.ensures c.in_ok-at-2.was c.list.ensures c.in_ok-at-3.was in
+    rw (q, ← c.receiver.ensures, c.in_ok-at-4.was, ← c.or_none.ensures, c.in_ok-at-5.was) c.list-2.ensures
