@@ -99,24 +99,53 @@ fn seven_sheets_with_reasons() {
     }
 }
 
-/// The sheets of Examples.antt, each a list of pairs.
-fn examples() -> Vec<Vec<u8>> {
+/// The sheets of Examples.antt, each a list of pairs, with the reasons to be
+/// Unpin that are expected of it.
+fn examples() -> Vec<(Vec<u8>, Reasons)> {
     let path = concat!(env!("CARGO_MANIFEST_DIR"), "/../crates/rules/specs/Examples.antt");
     let text = std::fs::read_to_string(path).expect("Examples.antt");
-    let lists = text.split("sheet = ").skip(1).filter_map(|rest| rest.split_once("[]"));
-    let pair = |word: &str| word.trim().parse::<u16>().expect("a pair");
-    let pairs = |list: &str| {
-        let words = list.split('∷').filter(|word| !word.trim().is_empty());
-        words.flat_map(|word| pair(word).to_le_bytes()).collect()
+    let part = |case: &str, begin: &str| -> Vec<String> {
+        let (_, rest) = case.split_once(begin).expect(begin);
+        let (list, _) = rest.split_once("[]").expect("a list");
+        let words = list.split('∷').map(|word| word.trim().to_owned());
+        words.filter(|word| !word.is_empty()).collect()
     };
-    lists.map(|(list, _)| pairs(list)).collect()
+    let number = |word: &str| word.parse::<u16>().expect("a number");
+    let of_case = |case: &str| {
+        let sheet =
+            part(case, "sheet = ").iter().flat_map(|word| number(word).to_le_bytes()).collect();
+        let mut reasons = [None; 256];
+        for pair in part(case, "unpin = ") {
+            let words: Vec<&str> =
+                pair.split(['(', ')', ',', ' ']).filter(|word| !word.is_empty()).collect();
+            reasons[usize::from(number(words[0]))] = match words[1] {
+                "Row" => Some(Reason::Row(number(words[2]))),
+                _ => Some(Reason::Item(number(words[2]) as u8)),
+            };
+        }
+        (sheet, reasons)
+    };
+    text.split("record {\n      sheet")
+        .skip(1)
+        .map(|rest| of_case(&format!("sheet{rest}")))
+        .collect()
 }
 
 #[test]
 fn seven_sheets_are_those_of_the_definitions() {
     let examples = examples();
     for (number, sheet) in proved::handles().iter().enumerate() {
-        assert!(examples.contains(sheet), "sheet {number}");
+        assert!(examples.iter().any(|(example, _)| example == sheet), "sheet {number}");
+    }
+}
+
+/// What the table of the definitions expects of each sheet, the eleven too.
+#[test]
+fn reasons_of_the_definitions() {
+    let examples = examples();
+    assert!(examples.len() >= 23);
+    for (number, (sheet, reasons)) in examples.iter().enumerate() {
+        assert_eq!(unpin(sheet).1, *reasons, "sheet {number}");
     }
 }
 

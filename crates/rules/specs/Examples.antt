@@ -253,7 +253,8 @@ cases =
         report = say 31 (F 1 0);
       };
     }
-    -- slices and references of anything but the plain name, a pinned one, a pinned one that is not mutable; and a slice and a reference that no item reaches: none
+    -- slices and references of anything but the plain name, a pinned one, a pinned one that is not mutable; a slice and a reference that no item
+    -- reaches: none
     ∷ record {
       sheet = 12 ∷ 2 ∷ 32 ∷ 36 ∷ 42 ∷ 48 ∷ 52 ∷ 58 ∷ 64 ∷ 70 ∷ 76 ∷ 82 ∷ 88 ∷ 94 ∷ 100 ∷ 108 ∷ 0 ∷ 27 ∷ 11 ∷ 27 ∷ 0 ∷ 10 ∷ 1 ∷ 1 ∷ 1 ∷ 0 ∷ 7 ∷ 1 ∷ 3 ∷ 7
           ∷ 0 ∷ 0 ∷ 7 ∷ 1 ∷ 5 ∷ 8 ∷ 1 ∷ 0 ∷ 7 ∷ 3 ∷ 0 ∷ 7 ∷ 2 ∷ 0 ∷ 10 ∷ 1 ∷ 0 ∷ 7 ∷ 1 ∷ 0 ∷ 7 ∷ 27 ∷ 0 ∷ 0 ∷ 5 ∷ 30 ∷ 0 ∷ 0 ∷ 0 ∷ 65535 ∷ 6 ∷ 2 ∷ 4 ∷ 6

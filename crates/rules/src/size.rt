@@ -1,4 +1,4 @@
-// Sizes of what is lent and written: docs/RULES.md, docs/LAYOUT.md.
+// Sizes of what is lent and written, and the numbers of the answer's bytes: docs/RULES.md, docs/LAYOUT.md.
 use crate::limit::BYTES;
 
 // Bytes that a call asks of its scratch.

@@ -31,7 +31,7 @@ fn fits(bytes: &[u8]) -> bool {
     bytes.len() == MAX_BYTES && reader::read(bytes).is_ok_and(|sheet| !judge::too_large(&sheet))
 }
 
-/// Sheet `number` of a group with its label. The group `all` takes the 27 profiles in turn; a sheet that is not full is enlarged.
+/// Sheet `number` of a group with its label. The group `all` takes all profiles in turn; a sheet that is not full is enlarged.
 fn draw(group: &str, number: u64) -> (String, Option<Vec<u8>>) {
     let (profile, seed, number) = match Profile::find(group) {
         Some(profile) => (profile, SEED, number),
