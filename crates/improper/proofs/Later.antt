@@ -107,7 +107,7 @@ module _ (s : List ℕ) where
       subst (λ (k : ℕ). found_in s w n k ≡ false) (add-one m) (found-on s w n m (found_none w n m (λ k l. h k (omega arith))) (h m (omega arith)))
 
   -- b are the names found before the pass, w those found so far
-  skipped : (b w : Words) (t : List NameSet) (n : ℕ) → Later s b t → Apart (set_at t n) w → n < 256 → b ∋ n ≡ false
+  pub skipped : (b w : Words) (t : List NameSet) (n : ℕ) → Later s b t → Apart (set_at t n) w → n < 256 → b ∋ n ≡ false
       → found_in s w n (looks_fields s (types_of s) n) ≡ false
   skipped b w t n later apart l e = found_none w n (looks_fields s (types_of s) n) (λ k m. by k m (looks_look s (types_of s) n k) refl)
     where

@@ -6,7 +6,7 @@ ghost use Rattle.improper.specs.Targets.{Leads, LeadsBelow, Apart, Skips};
 
 use crate::fields::fields_of;
 use names::known::Known;
-use names::{contains, empty, insert};
+use names::{contains, empty, put};
 use row_tables::listed::said;
 use row_tables::looks::Look;
 use rules::limit::ROWS;
@@ -28,7 +28,7 @@ fn targets_of(known: &Known<'_>, looks: &[Look; ROWS], n: u16) -> NameSet
         let Look::Name(name) = said(known.s, looks, fields.at, k) else {
             continue;
         };
-        set = insert(set, name as u16);
+        put(&mut set, name as u16);
     }
     set
 }

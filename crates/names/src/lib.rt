@@ -25,7 +25,7 @@ fn has_bit(word: u64, n: u16) -> bool
 }
 
 // The word of name n with its bit set.
-fn with_bit(word: u64, n: u16) -> u64
+pub fn with_bit(word: u64, n: u16) -> u64
     ensures { result ≡ bit_or word (2 ^ (n % 64)) }
 {
     word | (1 << (n % 64))
@@ -38,13 +38,20 @@ pub fn contains(set: &NameSet, n: u16) -> bool
     q < 4 && has_bit(set.words[q], n)
 }
 
-pub fn insert(mut set: NameSet, n: u16) -> NameSet
-    ensures { result.words ≡ add set.words n }
+// Name n is put into a set that is lent: a loop that hands a set on by value copies it at each turn.
+pub fn put(set: &mut NameSet, n: u16)
+    ensures { set.new.words ≡ add set.old.words n }
 {
     let q = n as usize / 64;
     if q < 4 {
         set.words[q] = with_bit(set.words[q], n);
     }
+}
+
+pub fn insert(mut set: NameSet, n: u16) -> NameSet
+    ensures { result.words ≡ add set.words n }
+{
+    put(&mut set, n);
     set
 }
 

@@ -145,8 +145,11 @@ struct Tally {
     different: usize,
 }
 
+// A count stops near 2^32, which no stored file comes near, so that no sum wraps.
 fn add(n: &mut usize, m: u32) {
-    *n = n.saturating_add(m as usize);
+    if *n < 4294967296 {
+        *n += m as usize;
+    }
 }
 
 impl Tally {

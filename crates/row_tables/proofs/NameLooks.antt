@@ -16,7 +16,7 @@ use Rattle.names.proofs.Columns.{has-is, entry-out}
 -- ## A name
 
 -- a number that is no name is in no column
-none_out : (w : List ℕ) (k n : ℕ) → name_count ≤ n → (names_in w k ∋ n) ≡ false
+pub none_out : (w : List ℕ) (k n : ℕ) → name_count ≤ n → (names_in w k ∋ n) ≡ false
 none_out w k n h = has-is w k n ∙ rw (entry-out w k n h)
 
 module _ (s w : List ℕ) (n : ℕ) where

@@ -56,7 +56,7 @@ module _ (s w : List ℕ) (r : ℕ) where
 -- ## No name in cxx
 
 module _ (s w : List ℕ) where
-  none-all : ((y : ℕ) → y < name_count → is_cxx (tabled s w) y ≡ false) → (x : ℕ) → is_cxx (tabled s w) x ≡ false
+  pub none-all : ((y : ℕ) → y < name_count → is_cxx (tabled s w) y ≡ false) → (x : ℕ) → is_cxx (tabled s w) x ≡ false
   none-all h x = by (dec_lt x name_count)
     where
       by : Dec (x < name_count) → is_cxx (tabled s w) x ≡ false

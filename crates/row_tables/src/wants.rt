@@ -2,7 +2,7 @@
 ghost use Rattle.std.specs.Prelude.{◌≡◌, true, false, List, ℕ};
 ghost use Rattle.rules.specs.Types.{is_cxx, is_extern};
 ghost use Rattle.rules.specs.Trivial.{insist};
-ghost use Rattle.names.specs.Known.{sheet, types};
+ghost use Rattle.names.specs.Known.{sheet, tabled, types};
 ghost use Rattle.row_tables.specs.Tables.{few_rows, one_of, WantRows};
 
 use crate::upward::upward;
@@ -13,9 +13,9 @@ use rules::row::RowKind;
 use sheet::items::rows;
 use sheet::rows::{is, row_name};
 
-// Whether no name is in cxx: then no row gives a reason.
+// Whether no name is in cxx, whatever the sheet beside the table: then no row gives a reason.
 pub fn no_cxx(known: &Known<'_>) -> bool
-    ensures { result ≡ true → (n : ℕ) → is_cxx (types known.now) n ≡ false }
+    ensures { result ≡ true → (s : List ℕ) (n : ℕ) → is_cxx (tabled s known.now.names.now) n ≡ false }
 {
     !(0..name::COUNT as u16).any(|n| known.is_cxx(n))
 }

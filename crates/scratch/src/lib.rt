@@ -55,8 +55,7 @@ impl Rows<'_> {
         requires { (r < most_rows) × (marks_end ≤ length self.now.scratch.now) }
         ensures { result ≡ marked self.now.scratch.now r }
     {
-        let at = MARKS + (r as usize) / 8;
-        (self.scratch[at] >> (r % 8)) % 2 == 1
+        seen(self.scratch, r)
     }
 
     // Row r, which was not seen, becomes the last of them.
@@ -68,6 +67,15 @@ impl Rows<'_> {
         mark(self.scratch, r);
         self.count += 1;
     }
+}
+
+// Whether row r is marked, in a scratch that is lent to be read.
+pub fn seen(scratch: &[u8], r: u16) -> bool
+    requires { (r < most_rows) × (marks_end ≤ length scratch.now) }
+    ensures { result ≡ marked scratch.now r }
+{
+    let at = MARKS + (r as usize) / 8;
+    (scratch[at] >> (r % 8)) % 2 == 1
 }
 
 // Marks row r.

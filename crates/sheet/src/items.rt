@@ -90,12 +90,19 @@ pub fn item_kind(s: &[u8], i: u16) -> Option<ItemKind>
     ItemKind::from_number(item_kind_number(s, i))
 }
 
-// Whether item i is of kind k.
+// Whether item i has this number of a kind, which may be no kind's.
 #[tactic(auto, unfolding(rules::specs::View::item_is))]
+pub fn item_is_number(s: &[u8], k: u16, i: u16) -> bool
+    ensures { result ≡ item_is s.now k i }
+{
+    item_kind_number(s, i) == k
+}
+
+// Whether item i is of kind k.
 pub fn item_is(s: &[u8], k: ItemKind, i: u16) -> bool
     ensures { result ≡ item_is s.now (item_number k) i }
 {
-    item_kind_number(s, i) == k.number()
+    item_is_number(s, k.number(), i)
 }
 
 // Whether it is a function; a struct, enum, CxxType, RustType or alias.

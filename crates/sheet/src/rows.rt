@@ -35,12 +35,19 @@ pub fn kind(s: &[u8], r: u16) -> Option<RowKind>
     RowKind::from_number(kind_number(s, r))
 }
 
-// Whether row r is of kind k.
+// Whether row r has this number of a kind, which may be no kind's.
 #[tactic(auto, unfolding(rules::specs::View::is))]
+pub fn is_number(s: &[u8], k: u16, r: u16) -> bool
+    ensures { result ≡ is s.now k r }
+{
+    kind_number(s, r) == k
+}
+
+// Whether row r is of kind k.
 pub fn is(s: &[u8], k: RowKind, r: u16) -> bool
     ensures { result ≡ is s.now (row_number k) r }
 {
-    kind_number(s, r) == k.number()
+    is_number(s, k.number(), r)
 }
 
 // The name of an Ident.

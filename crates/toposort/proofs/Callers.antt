@@ -9,7 +9,7 @@ use Rattle.rules.specs.Types.{types_of}
 use Rattle.rules.specs.Walk.{Out, sort_out}
 use Rattle.rules.specs.Order.{graph_by, plain_lead, walk_of}
 use Rattle.laws.specs.RowTable.{LeadRows}
-use Rattle.std.specs.Prelude.{Option}
+use Rattle.std.specs.Prelude.{Option, None}
 use Rattle.laws.proofs.Base.Lists.{places-take}
 use Rattle.laws.proofs.Graph.WalkCalls.{order-few}
 use Rattle.laws.proofs.Graph.SameEdges.{table-walk}
@@ -38,7 +38,7 @@ module _ {s : List ℕ} {d : List (Option ℕ)} (held : LeadRows s (plain_lead s
       unfolding w
       few =
           let led = plain-led acc in
-          rw (table-walk s d (plain_lead s (types_of s)) held acc led.table most_items) (order-few (table_graph s d) most_items (whole led))
+          rw (table-walk s d (plain_lead s (types_of s)) (held.entries None) acc led.table most_items) (order-few (table_graph s d) most_items (whole led))
 
       pub plain-few : r.len ≤ most_items
       unfolding w

@@ -15,7 +15,7 @@ use Rattle.rules.specs.Walk.{item_out, items_out, sort_out}
 use Rattle.rules.specs.Order.{graph_by, plain_lead, walk_of}
 use Rattle.laws.specs.Left.{fresh}
 use Rattle.laws.specs.RowTable.{LeadRows}
-use Rattle.std.specs.Prelude.{Option}
+use Rattle.std.specs.Prelude.{Option, None}
 use Rattle.laws.proofs.Base.Counts.{fresh-zeros}
 use Rattle.laws.proofs.Base.Lists.{places-sets}
 use Rattle.laws.proofs.Graph.SameEdges.{table-walk}
@@ -91,7 +91,7 @@ module _ {s : List ℕ} {d : List (Option ℕ)} (own : Led s d) {b : Errors} {i 
 
   -- the same of every function that the table holds
   by-lead : (lead : (row : ℕ) → ℕ) → LeadRows s lead d → SortsBy (sort_out (graph_by s lead) most_items) b answer b'
-  by-lead lead held = rw (table-walk s d lead held own.accepted own.table most_items) by-table
+  by-lead lead held = rw (table-walk s d lead (held.entries None) own.accepted own.table most_items) by-table
 
   by-plain : LeadRows s (plain_lead s (types_of s)) d → PlainRule s o'
   unfolding walk_of

@@ -20,7 +20,7 @@ use Rattle.rules.specs.Tiers.{largest, tiers_of}
 use Rattle.rules.specs.Answer.{places}
 use Rattle.rules.specs.Rule3.{IsStruct}
 use Rattle.laws.specs.RowTable.{LeadRows}
-use Rattle.std.specs.Prelude.{Option}
+use Rattle.std.specs.Prelude.{Option, None}
 use Rattle.laws.specs.TierPass.{up, tier_from, tiers_to, start_to, pass_of}
 use Rattle.laws.proofs.Base.Tests.{both, holds}
 use Rattle.laws.proofs.Base.Counts.{count-get, Eq?, same, other, eq?}
@@ -87,7 +87,7 @@ module _ {s : List ℕ} {d : List (Option ℕ)} (led : Led s d) {o : List ℕ} (
 
   -- the order of the function is that of the table that holds it
   order-is : o ≡ (sort_out (table_graph s d) most_items).sorted
-  order-is = own.order ∙ ap (λ (w : Out). w.sorted) (table-walk s d own.lead own.held led.accepted led.table most_items)
+  order-is = own.order ∙ ap (λ (w : Out). w.sorted) (table-walk s d own.lead (own.held.entries None) led.accepted led.table most_items)
 
   module _ (p : ℕ) (l : p < length o) where
     pub place-struct : IsStruct s (get_or o p 0)
@@ -112,4 +112,4 @@ module _ {s : List ℕ} {d : List (Option ℕ)} (led : Led s d) {o : List ℕ} (
           h ∙ rw (z, order-is) (pass-is G (items s) (own-good led) (whole led))
 
       by-lead : (lead : (row : ℕ) → ℕ) → LeadRows s lead d → t ≡ places (tiers_of (graph_by s lead) (items s))
-      by-lead lead held = by-table ∙ ap places (sym (table-tiers s d lead held led.accepted led.table (items s)))
+      by-lead lead held = by-table ∙ ap places (sym (table-tiers s d lead (held.entries None) led.accepted led.table (items s)))

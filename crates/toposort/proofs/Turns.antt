@@ -21,7 +21,8 @@ use Rattle.errors.specs.declared.Errors.{Errors}
 use Rattle.errors.specs.Sink.{Reported, also, silent, meant}
 use Rattle.toposort.specs.declared.Walk.{Walk}
 use Rattle.toposort.specs.State.{Did, Done, Visits, Room}
-use Rattle.toposort.proofs.Leading.{Skips, Turning}
+use Rattle.row_tables.specs.Listed.{LowestOut}
+use Rattle.toposort.proofs.Leading.{Skips, Turning, turned, turn_below, turn-known, turn_on}
 use Rattle.toposort.proofs.Parts.{did-still, did-join, Spends, Bounded, spends-first, room_after, room-less}
 
 -- ## One field
@@ -134,6 +135,21 @@ module _ {G : Graph} (lim : Bounded G) {b : Errors} {o : List ℕ} {i : ℕ} {v�
 pub going-skips : {G : Graph} (lim : Bounded G) {b : Errors} {o : List ℕ} {i : ℕ} {v₀ : Walk} {n : ℕ} {b' : Errors} {o' : List ℕ} {v : Walk}
     → Skips G i n (λ k. Going G b o i v₀ n k b' o' v)
 going-skips {G} lim {i = i} {b' = b'} {o'} {v} k l e g = going_on lim g v b' o' l (step-none G b' o' v i k e)
+
+-- the walk turns for the fields that lead to a struct alone: where the word has none left all fields are done, and a visit of its next field does the fields
+-- before that one too
+module _ {G : Graph} (lim : Bounded G) {b : Errors} {o : List ℕ} {i : ℕ} {v₀ : Walk} {n k left : ℕ} {b' : Errors} {o' : List ℕ} {v : Walk}
+    (t : Turning G i n k left) (g : Going G b o i v₀ n k b' o' v) where
+  pub walk-turned : left ≡ 0 → Going G b o i v₀ n n b' o' v
+  walk-turned e = rw (← t.all) at (turned t (going-skips lim) g e)
+
+  module _ {rest field : ℕ} (out : LowestOut left rest field) where
+    pub walk-known : Going G b o i v₀ n field b' o' v
+    walk-known = turn-known t out (going-skips lim) g
+
+    pub walk-on : (r : Walk) (b'' : Errors) (o'' : List ℕ) → Steps G b' o' v i field r b'' o''
+        → Turning G i n (field + 1) rest × Going G b o i v₀ n (field + 1) b'' o'' r
+    walk-on r b'' o'' step = (turn_on t out, going_on lim walk-known r b'' o'' (turn_below t out) step)
 
 -- the fields before some k are done, and the word has the others that lead to a struct
 abbrev pub Visiting : Graph → (b : Errors) (o : List ℕ) (i : ℕ) → Walk → (n left : ℕ) (b' : Errors) (o' : List ℕ) → Walk → Type 0

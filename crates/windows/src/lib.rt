@@ -1,5 +1,5 @@
-// Windows: of records that stand in bytes as many as a list has room for, and the places of the list that they go to. What is asked of the list and of an
-// answer is a number: its length, its total.
+// Windows: of a report's records those from a number on, of those that stand in bytes as many as a list has room for, and the places of the list that they go
+// to. What is asked of the list and of an answer is a number: its length, its total.
 #![tactic(auto)]
 
 ghost use Rattle.std.specs.Prelude.{◌≡◌, ◌+◌, ◌-◌, ◌/◌};
@@ -23,4 +23,11 @@ pub fn end(at: usize, n: usize, len: usize, bytes: usize) -> usize
     ensures { result ≡ at + least3 n (bytes / record_size) (len - at) }
 {
     at + n.min(bytes / RECORD).min(len.saturating_sub(at))
+}
+
+// How many of `total` records there are from number `from` on.
+pub fn left(total: usize, from: usize) -> usize
+    ensures { result ≡ total - from }
+{
+    total.saturating_sub(from)
 }

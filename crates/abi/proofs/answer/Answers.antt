@@ -4,4 +4,4 @@ use Rattle.abi.proofs.Answers.{answered}
 use Rattle.abi.proofs.answer.Goals as goal
 
 pub returns : goal.returns
-returns c = answered _ _ _ _ _ _ _ _ _ _ _ _ c.requires refl c.run-a.ensures c.saturating_sub.ensures refl c.write.ensures
+returns c = answered _ _ _ _ _ _ _ _ _ _ _ _ c.requires refl c.run-a.ensures c.left.ensures refl c.write.ensures

@@ -4,7 +4,7 @@
 use Prim.Native.Nat.{ℕ, zero, suc, ◌+◌, ◌-◌, ◌*◌, ◌/◌, ◌%◌, ◌^◌, ◌≤◌, ◌<◌}
 use mathlib.Core.Path.{◌≡◌, refl, sym, ap, ◌∙◌}
 use mathlib.Core.Bool.{Bool, true, false}
-use native.Mathlib.Nat.{pow-suc, mul_assoc, mul_comm, mul-suc}
+use native.Mathlib.Nat.{pow-suc, mul_assoc, mul_comm, mul-suc, mul-div_cancel}
 use native.Mathlib.Omega.{arith}
 use lib.Count.{under, count_trailing_zeros}
 use lib.Pow.{pow-add, pow_pos}
@@ -19,6 +19,13 @@ pub record NextOf (p : ℕ → Bool) (k n rest j : ℕ) : Type 0 where
   pub before : (i : ℕ) → k ≤ i → i < j → p i ≡ false
   pub passes : p j ≡ true
   pub behind : rest ≡ 2 ^ (j + 1) * word_of p (j + 1) (n - (j + 1))
+
+-- the same of a word whose lowest bit is entry k's: z entries fail, the one behind them passes, and behind that one the word, shifted, goes on
+pub record NextShifted (p : ℕ → Bool) (k n w z : ℕ) : Type 0 where
+  pub within : k + z < n
+  pub before : (j : ℕ) → j < z → p (k + j) ≡ false
+  pub passes : p (k + z) ≡ true
+  pub behind : w / 2 ^ z / 2 ≡ word_of p (k + z + 1) (n - (k + z + 1))
 
 -- of m entries from k on, with the first one's bit the lowest of the word w: z of these fail, the one behind them passes, and then come the others
 record Low (p : ℕ → Bool) (k m w z : ℕ) : Type 0 where
@@ -67,6 +74,10 @@ without k z v x rest e r =
     let next : 2 ^ (k + z + 1) ≡ 2 ^ (k + z) * 2 = let o : k + z + 1 ≡ suc (k + z) = omega arith in rw o (pow-suc 2 (k + z)) in
     rw next (omega (arith, r, whole))
 
+-- a word shifted behind the zeros below it
+shifted : (z y : ℕ) → 2 ^ z * y / 2 ^ z ≡ y
+shifted z y = ap (λ (x : ℕ). x / 2 ^ z) (mul_comm (2 ^ z) y) ∙ mul-div_cancel y (pow_pos z)
+
 module _ (p : ℕ → Bool) where
   pub word_lt : (k m : ℕ) → word_of p k m < 2 ^ m
   unfolding word_of
@@ -83,7 +94,7 @@ module _ (p : ℕ → Bool) where
       rw (here, more) (omega arith)
 
   -- the word is 0: no entry passes
-  word_none : (k m : ℕ) → word_of p k m ≡ 0 → (j : ℕ) → j < m → p (k + j) ≡ false
+  pub word_none : (k m : ℕ) → word_of p k m ≡ 0 → (j : ℕ) → j < m → p (k + j) ≡ false
   unfolding word_of
   word_none k zero h j l = absurd (omega arith)
   word_none k (suc m) h zero l =
@@ -157,3 +168,21 @@ module _ (p : ℕ → Bool) where
         passes = rw at a.passes;
         behind = rw (next, less) at (without k z v (word_of p (k + z + 1) (n - k - (z + 1))) rest a.behind (rw (at, e) at r));
       }
+
+  -- the zeros at the low end of a word that is not 0, and the word shifted behind them
+  pub next_shifted : (k n w z : ℕ) → n ≤ 64 → w ≡ word_of p k (n - k) → (w ≡ 0 → ⊥) → z ≡ count_trailing_zeros 64 w → NextShifted p k n w z
+  next_shifted k n w z few e some q =
+      let a : Low p k (n - k) w z = rw (q, e) (low_of 64 k (n - k) (omega arith) (rw e at (positive w some))) in
+      let rest : n - k - (z + 1) ≡ n - (k + z + 1) = omega arith in
+      let x = word_of p (k + z + 1) (n - k - (z + 1)) in
+      let half : (1 + 2 * x) / 2 ≡ x = omega arith in
+      record {
+        within = omega (arith, a.within);
+        before = a.before;
+        passes = a.passes;
+        behind = rw rest at (ap (λ (y : ℕ). y / 2 ^ z / 2) a.behind ∙ ap (λ (y : ℕ). y / 2) (shifted z (1 + 2 * x)) ∙ half);
+      }
+    where
+      positive : (x : ℕ) → (x ≡ 0 → ⊥) → 0 < x
+      positive zero h = absurd (h refl)
+      positive (suc x) h = omega arith

@@ -20,7 +20,7 @@ use Rattle.rules.specs.Walk.{Out, still, join, blamed, seen, finished, field_out
 use Rattle.rules.specs.Tiers.{largest, one_above, longest, tier_at, tiers_of}
 use Rattle.rules.specs.Order.{graph_by}
 use Rattle.rules.specs.Rule3.{IsStruct}
-use Rattle.laws.specs.RowTable.{LeadRows, LeadTable, lead_by, item_of}
+use Rattle.laws.specs.RowTable.{LeadTable, lead_by, item_of}
 use Rattle.std.specs.Prelude.{Option, Some, None}
 use Rattle.laws.proofs.Base.Counts.{eqb-false}
 use Rattle.laws.proofs.Graph.Chains.{Good}
@@ -147,20 +147,20 @@ module _ (s : List ℕ) (d : List (Option ℕ)) where
   pub table-good : LeadTable s d → (n : ℕ) → items s ≤ n → n ≤ most_items → Good (graph_by s (lead_by s d)) n
   table-good t = good-for s (lead_by s d) (lead-to-structs t)
 
-  module _ (lead : (row : ℕ) → ℕ) (holds : LeadRows s lead d) where
+  module _ (lead : (row : ℕ) → ℕ) (holds : (r : ℕ) → r < rows s → get_or d r None ≡ some_unless no_item (lead r)) where
     -- a table that holds a function that leads to struct items
     pub lead-table : ToStructs s lead → LeadTable s d
     lead-table to =
         record {
           to_structs =
-              λ r i l e. (let q = entry-some (lead r) i (sym (holds.entries None r l) ∙ e) in subst (λ (x : ℕ). IsStruct s x) q.0 (to r q.1));
+              λ r i l e. (let q = entry-some (lead r) i (sym (holds r l) ∙ e) in subst (λ (x : ℕ). IsStruct s x) q.0 (to r q.1));
         }
 
     module _ (acc : Accepted s) (t : LeadTable s d) where
       field-leads : (i k : ℕ) → T ((graph_by s lead).struct i) → k < (graph_by s lead).fields i → lead (field s i k) ≡ lead_by s d (field s i k)
       field-leads i k si l =
           let m = field_row s acc i k ((struct_is s i).0 si) l in
-          sym (lead-at (field s i k) m ∙ ap item_of (holds.entries None (field s i k) m) ∙ item_is (lead (field s i k)))
+          sym (lead-at (field s i k) m ∙ ap item_of (holds (field s i k) m) ∙ item_is (lead (field s i k)))
 
       good : Good (graph_by s (lead_by s d)) most_items
       good = table-good t most_items (few-items s acc) (omega arith)

@@ -16,7 +16,7 @@ use Rattle.rules.specs.Rule3.{PlainLeads, Holds}
 use Rattle.laws.proofs.Graph.Chains.{Good}
 use Rattle.laws.proofs.Names.LastItems.{of-last, last_of}
 use Rattle.laws.specs.RowTable.{LeadRows, LeadTable}
-use Rattle.std.specs.Prelude.{Option}
+use Rattle.std.specs.Prelude.{Option, None}
 use Rattle.laws.proofs.Rule3.Tied.{Tied, tied-good, LeadsAs, to_structs, ties}
 use Rattle.laws.proofs.Graph.SameEdges.{lead-table}
 
@@ -45,4 +45,4 @@ module _ (s : List ℕ) where
 
     -- a table of where plain names lead
     pub plain-table : (d : List (Option ℕ)) → LeadRows s (plain_lead s (types_of s)) d → LeadTable s d
-    plain-table d held = lead-table s d (plain_lead s (types_of s)) held (to_structs plain-leads)
+    plain-table d held = lead-table s d (plain_lead s (types_of s)) (held.entries None) (to_structs plain-leads)

@@ -24,9 +24,9 @@ use Rattle.toposort.specs.Leads.{Led, table_graph, FieldLeads}
 use Rattle.toposort.specs.State.{Visits, VisitsBy}
 use Rattle.toposort.proofs.Edges.{few-fields, bounded, struct-below, counted_is}
 use Rattle.toposort.proofs.Parts.{did-still}
-use Rattle.toposort.proofs.Turns.{Steps, Going, Visiting, going_on, going-skips, going-room, going-fresh, going-len}
+use Rattle.toposort.proofs.Turns.{Steps, Going, Visiting, going-skips, walk-known, walk-on, going-room, going-fresh, going-len}
 use Rattle.toposort.proofs.Turns.{put-ok, visits-flag, step_ok, step-bad, seen-marked, visit-seen, visit-new}
-use Rattle.toposort.proofs.Leading.{turned, turn_below, turn-known, turn-leads, turn_on, turning-none, nowhere, there, to-struct}
+use Rattle.toposort.proofs.Leading.{turned, turn_below, turn-leads, turning-none, nowhere, there, to-struct}
 use Rattle.std.specs.Prelude.{Option, Some}
 use Rattle.toposort.proofs.+visit.Goals as goal
 use Rattle.toposort.proofs.+visit.Goals.{then-found-eq-NEW, else-found-eq-NEW}
@@ -47,10 +47,10 @@ module _ {s : List ℕ} {d : List (Option ℕ)} (own : Led s d) {b : Errors} {o 
     Next r b'' o'' = Visiting G b o i v₀ n others b'' o'' r
 
     on : Going G b o i v₀ n field b' o' v
-    on = turn-known g.1 out (going-skips (bounded own)) g.2
+    on = walk-known (bounded own) g.1 g.2 out
 
     next : {r : Walk} {b'' : Errors} {o'' : List ℕ} → Steps G b' o' v i field r b'' o'' → Next r b'' o''
-    next step = (field + 1, turn_on g.1 out, going_on (bounded own) on _ _ _ (turn_below g.1 out) step)
+    next step = let done = walk-on (bounded own) g.1 g.2 out _ _ _ step in (field + 1, done.0, done.1)
 
     -- x is the item to which the field leads, as the code reads it
     module _ (h : IsStruct s i) {at : ℕ} (a : at ≡ rest s i) {x : ℕ} (f : FieldLeads s d at field (Some x)) where

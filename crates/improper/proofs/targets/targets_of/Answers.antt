@@ -20,7 +20,7 @@ loop-k-preserved-in_default c =
 pub loop-k-preserved : goal.loop-k-preserved
 loop-k-preserved c =
     let look = ap look_of (c.said.ensures Proper) ∙ (c.fields_of-fields.ensures _ c.requires).look Proper _ _ refl c.loop-k-test.true in
-    let took = took-name _ _ (omega arith) c.insert-set.ensures c.loop-k.invariant.0 in
+    let took = took-name _ _ (omega arith) c.put.ensures c.loop-k.invariant.0 in
     (took.long, leads-on _ _ _ _ _ _ c.loop-k.invariant.1 took (ap look_of (sym c.in-Name.is) ∙ look))
 
 pub returns : goal.returns

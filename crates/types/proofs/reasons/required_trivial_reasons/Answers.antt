@@ -15,7 +15,7 @@ returns-then-no_cxx c =
     let s = c.args.s.now in
     let w = c.args.names.now in
     let rows = c.args.rows.now in
-    all_nothing s w (λ r. nothing-wanted s (tabled s w) r (c.no_cxx.ensures c.if-no_cxx.true)) rows.scratch.now rows.count
+    all_nothing s w (λ r. nothing-wanted s (tabled s w) r (c.no_cxx.ensures c.if-no_cxx.true s)) rows.scratch.now rows.count
 
 pub insist_rows-requires : goal.insist_rows-requires
 insist_rows-requires c = wants-same c.insist_items.ensures c.wants-wants.ensures

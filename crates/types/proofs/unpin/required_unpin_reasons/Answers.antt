@@ -11,7 +11,7 @@ pub returns-then-no_cxx : goal.returns-then-no_cxx
 returns-then-no_cxx c =
     let known = c.args.known.now in
     let rows = c.args.collected.now in
-    none_found known.s.now (types known) (c.no_cxx.ensures c.if-no_cxx.true) rows.scratch.now rows.count
+    none_found known.s.now (types known) (c.no_cxx.ensures c.if-no_cxx.true known.s.now) rows.scratch.now rows.count
 
 pub returns : goal.returns
 returns c =

@@ -1,9 +1,9 @@
--- `names::insert` is `add` of the rules: the word gets the bit, and past the last word nothing is stored.
+-- `names::put` is `add` of the rules: the word gets the bit, and past the last word nothing is stored.
 -- Assumes nothing.
 use borrow.Author.Rules.{rules}
 use Rattle.rules.specs.Names.{add}
 use Rattle.names.proofs.Laws.{insert-none}
-use Rattle.names.proofs.insert.Goals as goal
+use Rattle.names.proofs.put.Goals as goal
 
 pub returns-then-q-lt4 : goal.returns-then-q-lt4
 unfolding add

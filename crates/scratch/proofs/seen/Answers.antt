@@ -1,9 +1,9 @@
--- `scratch::Rows::seen` meets its contract.
+-- `scratch::seen` meets its contract.
 -- Assumes nothing.
 use mathlib.Core.Path.{refl}
 use Rattle.rules.specs.Names.{bit_of}
 use Rattle.scratch.specs.Bytes.{marked}
-use Rattle.scratch.proofs.Rows.seen.Goals as goal
+use Rattle.scratch.proofs.seen.Goals as goal
 
 pub returns : goal.returns
 unfolding marked bit_of
