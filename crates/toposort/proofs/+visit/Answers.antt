@@ -24,9 +24,9 @@ use Rattle.toposort.specs.Leads.{Led, table_graph, FieldLeads}
 use Rattle.toposort.specs.State.{Visits, VisitsBy}
 use Rattle.toposort.proofs.Edges.{few-fields, bounded, struct-below, counted_is}
 use Rattle.toposort.proofs.Parts.{did-still}
-use Rattle.toposort.proofs.Turns.{Steps, Going, Visiting, going-skips, walk-known, walk-on, going-room, going-fresh, going-len}
+use Rattle.toposort.proofs.Turns.{Steps, Going, Visiting, walk-turned, walk-known, walk-on, going-room, going-fresh, going-len}
 use Rattle.toposort.proofs.Turns.{put-ok, visits-flag, step_ok, step-bad, seen-marked, visit-seen, visit-new}
-use Rattle.toposort.proofs.Leading.{turned, turn_below, turn-leads, turning-none, nowhere, there, to-struct}
+use Rattle.toposort.proofs.Leading.{turn_below, turn-leads, turning-none, nowhere, there, to-struct}
 use Rattle.std.specs.Prelude.{Option, Some}
 use Rattle.toposort.proofs.+visit.Goals as goal
 use Rattle.toposort.proofs.+visit.Goals.{then-found-eq-NEW, else-found-eq-NEW}
@@ -40,7 +40,7 @@ module _ {s : List ℕ} {d : List (Option ℕ)} (own : Led s d) {b : Errors} {o 
 
   -- no field that leads to a struct is left
   ended : left ≡ 0 → Going G b o i v₀ n (G.fields i) b' o' v
-  ended = turned g.1 (going-skips (bounded own)) g.2
+  ended e = subst (λ (k : ℕ). Going G b o i v₀ n k b' o' v) g.1.all (walk-turned (bounded own) g.1 g.2 e)
 
   module _ {others field : ℕ} (out : LowestOut left others field) where
     abbrev Next : Walk → Errors → List ℕ → Type 0
